@@ -1,0 +1,54 @@
+# make lib      the static library, target/staticlib/libscheme.a, proved and compiled by rt
+# make run      prove and run the test vectors, then the examples (TEXT='...' for the one of SHAKE)
+# make test     the merge gate: every proof, every must-fail edit, every host test
+# make vectors  make the stored test vectors again
+# make bench    time the library beside portable C, and beside OpenSSL where it is installed
+# make clean    remove all that was built
+
+CC = gcc
+CFLAGS = -std=c99 -O3 -Wall -Wextra -Wpedantic
+CPPFLAGS = -Iinclude
+RT = rt
+
+LIB = target/staticlib/libscheme.a
+SOURCES := crates.txt $(shell find crates -name '*.rt' -o -name '*.antt')
+EXAMPLES = target/examples/shake
+BENCHES = target/bench/shake
+BENCH_PARTS = bench/timing.c bench/timing.h bench/keccak_ref.c bench/keccak_ref.h
+
+# What the benchmark needs for OpenSSL, or nothing where a program that uses it cannot be linked.
+OPENSSL_PROBE = printf '\#include <openssl/evp.h>\nint main(void) { return !EVP_shake128(); }\n' \
+	| $(CC) -x c - -o target/bench/probe -lcrypto 2>/dev/null && echo -DBENCH_OPENSSL -lcrypto
+
+.PHONY: lib run test vectors bench clean
+.DELETE_ON_ERROR:
+
+lib: $(LIB)
+
+$(LIB): $(SOURCES)
+	$(RT) staticlib scheme
+
+run: $(EXAMPLES)
+	$(RT) check shake_vectors
+	target/examples/shake $${TEXT:+"$$TEXT"}
+
+target/examples/%: examples/%.c include/kindi.h $(LIB)
+	@mkdir -p $(@D)
+	$(CC) $(CFLAGS) $(CPPFLAGS) $< $(LIB) -o $@
+
+test:
+	.ci/run
+
+vectors:
+	tests/vectors/shake_cases.py
+
+bench: $(BENCHES)
+	for program in $(BENCHES); do $$program || exit 1; done
+
+target/bench/%: bench/%.c $(BENCH_PARTS) include/kindi.h $(LIB)
+	@mkdir -p $(@D)
+	openssl=$$($(OPENSSL_PROBE)); \
+	$(CC) $(CFLAGS) $(CPPFLAGS) $< $(filter %.c,$(BENCH_PARTS)) $(LIB) $$openssl -o $@
+
+clean:
+	rm -rf target

@@ -1,0 +1,123 @@
+use lib.ListN.{length-take, length-drop}
+use Prim.Native.Nat.{_+_}
+use mathlib.Core.Path.{_≡_, refl, sym, ap, _∙_}
+use mathlib.Core.List.{List, [], _∷_, _++_}
+use Prim.Native.Nat.{ℕ, _*_, _≤_, _-_}
+use native.Mathlib.Omega.{arith}
+use borrow.Author.Needs.{needs}
+use lib.ListN.{length, take, getD}
+use lib.Seq.{take-all}
+use Rattle.hash.specs.Lists.{concatMap, digits}
+use Rattle.hash.specs.Shake.{rowString}
+use Rattle.hash.proofs.Parts.{fill-more, length-patched, length-digits}
+use Rattle.hash.proofs.strings.store_row.Statement.{statement}
+use Rattle.hash.proofs.strings.store_row.Tie as tie
+use Rattle.hash.proofs.strings.store_row.Reads as reads
+use Rattle.hash.proofs.strings.store_row.Lts as lts
+use Rattle.hash.proofs.strings.store.Reads as store-reads
+
+abbrev Inv-loop : tie.InvT-loop
+Inv-loop dst₀ p x₀ dst x = (x ≤ 5) × (length dst ≡ 40) × (take (8 * x) dst ≡ concatMap (digits 8 8) (take x p))
+
+abbrev μ-loop : tie.MeasureT-loop
+μ-loop dst₀ p x₀ dst x = 5 - x
+
+-- src/strings.rt:67:5
+loop-holds : tie.Need-loop-holds Inv-loop μ-loop
+unfolding concatMap
+loop-holds c = (omega arith, c .before .pre, refl)
+
+-- src/strings.rt:68:24
+mul-store : tie.Need-mul-store Inv-loop μ-loop
+mul-store c = omega arith
+
+-- src/strings.rt:68:31
+mul-store-2 : tie.Need-mul-store-2 Inv-loop μ-loop
+mul-store-2 c = omega arith
+
+-- src/strings.rt:68:31
+add-store : tie.Need-add-store Inv-loop μ-loop
+add-store c = omega arith
+
+-- src/strings.rt:68:15
+sub-store : tie.Need-sub-store Inv-loop μ-loop
+sub-store c = omega arith
+
+-- src/strings.rt:68:15
+part-store-start : tie.Need-part-store-start Inv-loop μ-loop
+part-store-start c = omega arith
+
+-- src/strings.rt:68:15
+part-store-end : tie.Need-part-store-end Inv-loop μ-loop
+part-store-end c = omega arith
+
+-- src/strings.rt:68:43
+mul-store-3 : tie.Need-mul-store-3 Inv-loop μ-loop
+mul-store-3 c = omega arith
+
+-- src/strings.rt:68:43
+array-read-store : tie.Need-array-read-store Inv-loop μ-loop
+array-read-store c = omega arith
+
+-- src/strings.rt:68:9
+store-requires : tie.Need-store-requires Inv-loop μ-loop
+store-requires c κs = simp (length-take, length-drop) (omega arith)
+
+-- src/strings.rt:69:9
+add-x : tie.Need-add-x Inv-loop μ-loop
+add-x c = omega arith
+
+-- src/strings.rt:67:5
+loop-less : tie.Need-loop-less Inv-loop μ-loop
+loop-less c = omega arith
+
+-- src/strings.rt:67:5
+loop-again : tie.Need-loop-again Inv-loop μ-loop
+loop-again c =
+    let h = c .before .before .before .before .before .loop in
+    let p = c .before .before .before .before .before .before .before .args .t2 in
+    let long : length p ≡ 5 = search needs in
+    let bytes = c .before .before .store .last .0 in
+    let wrote : bytes ≡ digits 8 8 (getD p (h .x) 0) = c .before .before .store .ensures in
+    let eight : length bytes ≡ 8 = ap length wrote ∙ length-digits 8 8 (getD p (h .x) 0) in
+    let step : 8 * h .x + 8 - 8 * h .x ≡ 8 = omega arith in (
+      omega arith,
+      rw step (length-patched (8 * h .x) 8 bytes (h .dst) eight (omega arith) ∙ h .inv .1),
+      rw step
+          (fill-more (digits 8 8) p 0 8 (h .x) (h .dst) bytes (omega arith) (length-digits 8 8 _) (omega arith) wrote (h .inv .2)),
+    )
+
+-- src/strings.rt:62:1
+same-length : tie.Need-same-length Inv-loop μ-loop
+same-length c = c .before .loop .inv .1 ∙ sym (c .before .before .before .pre)
+
+-- src/strings.rt:62:1
+returns : tie.Need-returns Inv-loop μ-loop
+unfolding rowString
+returns c =
+    let h = c .before .loop in
+    let p = c .before .before .before .args .t2 in
+    let long : length p ≡ 5 = search needs in
+    sym (take-all (8 * h .x) (h .dst) (omega arith)) ∙ h .inv .2 ∙ ap (concatMap (digits 8 8)) (take-all (h .x) p (omega arith))
+
+pub store-row-spec : {M : Type 1} → statement M
+store-row-spec =
+    tie.close
+    (tie.spec
+    Inv-loop
+    μ-loop
+    loop-holds
+    mul-store
+    mul-store-2
+    add-store
+    sub-store
+    part-store-start
+    part-store-end
+    mul-store-3
+    array-read-store
+    store-requires
+    add-x
+    loop-less
+    loop-again
+    same-length
+    returns)

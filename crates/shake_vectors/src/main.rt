@@ -1,0 +1,96 @@
+// Reads cases of SHAKE on standard input and writes the output of each as a line of hexadecimal.
+// A case is a byte (1 for SHAKE128, 2 for SHAKE256), the length of the input and that of the
+// output, two bytes each with the low byte first, and the input. A case that is cut short, of
+// another kind, or too long for the buffers of 65,536 bytes, ends the run.
+use libc::STDIN_FILENO;
+use libc::STDOUT_FILENO;
+ghost use mathlib.Core.Path.{_≡_};
+ghost use Prim.Native.Nat.{_+_, _*_, _≤_, _<_};
+ghost use lib.ListN.{length};
+
+fn pair(low: u8, high: u8) -> usize
+    ensures { λ r. ⌜ r < 65536 ⌝ }
+{
+    low as usize + 256 * (high as usize)
+}
+
+fn digit(n: u8) -> u8 {
+    let d = n % 16;
+    if d < 10 { 48 + d } else { 87 + d }
+}
+
+fn spell(bytes: &[u8], line: &mut [u8])
+    requires { ⌜ 2 * length (now bytes) ≤ length (now line) ⌝ }
+{
+    let mut i = 0;
+    while i < bytes.len() {
+        let b = bytes[i];
+        line[2 * i] = digit(b / 16);
+        line[2 * i + 1] = digit(b);
+        i += 1;
+    }
+}
+
+fn run(kind: u8, input: &[u8], output: &mut [u8]) -> bool {
+    if kind == 1 {
+        hash::shake128(input, output);
+        return true;
+    }
+    if kind == 2 {
+        hash::shake256(input, output);
+        return true;
+    }
+    false
+}
+
+// Runs a case and writes its line, for which line has just the room.
+fn answer(kind: u8, input: &[u8], output: &mut [u8], line: &mut [u8]) -> bool
+    requires { ⌜ 2 * length (now output) + 1 ≡ length (now line) ⌝ }
+{
+    let ok = run(kind, input, output);
+    if !ok {
+        return false;
+    }
+    spell(output, line);
+    line[2 * output.len()] = 10;
+    io::write_all(STDOUT_FILENO, line)
+}
+
+// Reads a case and answers it, in buffers that the caller lends.
+fn one_case(input: &mut [u8], output: &mut [u8], line: &mut [u8]) -> bool {
+    let mut head = [0u8; 5];
+    if io::read_full(STDIN_FILENO, &mut head) != 5 {
+        return false;
+    }
+    let n = pair(head[1], head[2]);
+    let m = pair(head[3], head[4]);
+    let end = 2 * m + 1;
+    if input.len() < n {
+        return false;
+    }
+    if output.len() < m {
+        return false;
+    }
+    if line.len() < end {
+        return false;
+    }
+    if io::read_full(STDIN_FILENO, &mut input[..n]) != n {
+        return false;
+    }
+    answer(head[0], &input[..n], &mut output[..m], &mut line[..end])
+}
+
+// A proved loop has to end, and nothing says that the input does: it counts down from a number
+// that no run uses up.
+fn main() {
+    let mut input = io::large_buffer();
+    let mut output = io::large_buffer();
+    let mut line = io::large_buffer();
+    let mut turns = u64::MAX;
+    while turns > 0 {
+        if !one_case(&mut input, &mut output, &mut line) {
+            return;
+        }
+        turns -= 1;
+    }
+}

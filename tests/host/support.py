@@ -1,0 +1,111 @@
+"""What the host tests share: paths, running a compiler, the shared object, and guarded buffers."""
+
+import ctypes
+import subprocess
+import sys
+from pathlib import Path
+
+ROOT = Path(__file__).resolve().parents[2]
+INCLUDE = ROOT / "include"
+HEADER = INCLUDE / "kindi.h"
+ARCHIVE = ROOT / "target" / "staticlib" / "libscheme.a"
+BUILD = ROOT / "target" / "host"
+
+WARNINGS = ["-Wall", "-Wextra", "-Wpedantic", "-Werror"]
+
+
+class Failure(Exception):
+    """A test that failed; the text says what."""
+
+
+def check(condition, what):
+    if not condition:
+        raise Failure(what)
+
+
+def run(command):
+    """Runs a command and returns its standard output; a failure carries all that it wrote."""
+    words = [str(word) for word in command]
+    try:
+        done = subprocess.run(words, cwd=ROOT, capture_output=True, text=True, errors="replace")
+    except OSError as error:
+        raise Failure(f"{words[0]} cannot be run: {error}") from error
+    if done.returncode != 0:
+        ended = f"ended by signal {-done.returncode}" if done.returncode < 0 else f"exit {done.returncode}"
+        raise Failure(f"{' '.join(words)}: {ended}\n{done.stdout}{done.stderr}".rstrip())
+    return done.stdout
+
+
+def archive():
+    check(ARCHIVE.is_file(), f"{ARCHIVE.relative_to(ROOT)} is missing: run rt staticlib scheme")
+    return ARCHIVE
+
+
+def build_program(source, name, words=()):
+    """Compiles one C99 file with every warning an error and links it with the archive."""
+    BUILD.mkdir(parents=True, exist_ok=True)
+    out = BUILD / name
+    run(["gcc", "-std=c99", "-O1", *WARNINGS, "-I", INCLUDE, *words, source, archive(), "-o", out])
+    return out
+
+
+def load_library():
+    """Links the whole archive as a shared object and loads it. Text relocations and names that the C
+    library does not have are refused, so an archive that is not position independent fails here."""
+    BUILD.mkdir(parents=True, exist_ok=True)
+    out = BUILD / "libkindi.so"
+    out.unlink(missing_ok=True)
+    run(["gcc", "-shared", "-o", out, "-Wl,-z,text", "-Wl,-z,defs", "-Wl,--fatal-warnings",
+         "-Wl,--whole-archive", archive(), "-Wl,--no-whole-archive"])
+    return ctypes.CDLL(str(out))
+
+
+def declared_functions():
+    """The names of the functions that the header itself declares, as the compiler reads it."""
+    BUILD.mkdir(parents=True, exist_ok=True)
+    listing = BUILD / "declared.txt"
+    run(["gcc", "-std=c99", "-fsyntax-only", "-x", "c", "-aux-info", listing, HEADER])
+    names = set()
+    for line in listing.read_text().splitlines():
+        where, _, prototype = line.partition("*/")
+        if f"/{HEADER.name}:" in where:
+            names.add(prototype.partition("(")[0].split()[-1].lstrip("*"))
+    return names
+
+
+class Guarded:
+    """A buffer with a run of known bytes before and after it, to see a write outside it.
+
+    Its address takes every remainder by 8 as offset runs from 0 to 7. What is in the buffer itself
+    before a call is not zero, so that a byte that a call does not write shows.
+    """
+
+    GUARD = 64
+
+    def __init__(self, length, offset=0, content=None):
+        self.length = length
+        self.before = self.GUARD + offset
+        fill = bytes((0xC3 ^ (i * 29)) & 0xFF for i in range(self.before))
+        self.head, self.tail = fill, fill[::-1]
+        body = content if content is not None else b"\xa5" * length
+        self.memory = (ctypes.c_ubyte * (length + 2 * self.before)).from_buffer_copy(self.head + body + self.tail)
+
+    def pointer(self):
+        return ctypes.cast(ctypes.addressof(self.memory) + self.before, ctypes.c_void_p)
+
+    def bytes(self):
+        """The buffer's bytes, once the bytes round it are seen to be as they were."""
+        whole = bytes(self.memory)
+        end = self.before + self.length
+        check(whole[:self.before] == self.head, f"a byte before a buffer of {self.length} bytes was written")
+        check(whole[end:] == self.tail, f"a byte after a buffer of {self.length} bytes was written")
+        return whole[self.before:end]
+
+
+def main(test):
+    """Runs a test: what it returns is its closing line, and a failure is exit 1 with what failed."""
+    try:
+        print(test())
+    except Failure as failure:
+        print(f"{Path(sys.argv[0]).name}: {failure}")
+        sys.exit(1)
