@@ -1,16 +1,16 @@
 -- The sponge's last block: the padding that `finish` adds is the one that `finished` absorbs. Assumes nothing.
-use mathlib.Core.Path.{_≡_, refl, sym, ap, ap₂, _∙_, subst}
+use mathlib.Core.Path.{_≡_, sym, ap, ap₂, _∙_}
 use mathlib.Core.List.{List, _++_}
-use Prim.Native.Nat.{ℕ, zero, suc, _+_, _-_, _%_, _≤_, _<_}
+use Prim.Native.Nat.{ℕ, suc, _+_, _-_, _%_}
 use native.Mathlib.Nat.{mod-eq-of-lt}
 use native.Mathlib.Omega.{arith}
 use lib.Bits.{bitXor}
 use lib.ListN.{length, getD, take, drop, set}
+use Rattle.hash.proofs.Padding.{lastBytes, length-lastBytes, padding-is, xor-ends-at}
+use Rattle.hash.proofs.Steps.{sponge, is-ready-as, absorbed-ready, absorbed-part}
 use Rattle.hash.specs.Shake.{xorInto, padding}
 use Rattle.hash.specs.Stream.{Sound, ready, absorbed, finished}
 use Rattle.hash.specs.declared.sponge.Sponge.{Sponge}
-use Rattle.hash.proofs.Padding.{lastBytes, length-lastBytes, padding-is, xor-ends-at}
-use Rattle.hash.proofs.Steps.{sponge, Ready, is-ready-as, absorbed-ready, absorbed-part}
 
 -- The padding of a sponge fills what is left of its block.
 pub padding-left : (s t : Sponge) → Sound s → t ≡ ready s → padding (s .rate) (s .at) ≡ lastBytes (s .rate - 1 - t .at)

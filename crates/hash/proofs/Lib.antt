@@ -6,4 +6,6 @@ pub mod Parts
 pub mod Padding
 pub mod Steps
 pub mod Finish
+pub mod Blocks
+pub mod Octets
 pub mod Laws

@@ -1,17 +1,16 @@
 -- SHAKE's padding byte by byte, and its addition at the end of a block. Assumes nothing.
-use mathlib.Core.Path.{_≡_, refl, sym, ap, ap₂, _∙_, subst}
+use mathlib.Core.Path.{_≡_, refl, sym, ap, ap₂, _∙_}
 use mathlib.Core.List.{List, [], _∷_, _++_}
-use Prim.Native.Nat.{ℕ, zero, suc, _+_, _-_, _*_, _/_, _%_, _^_, _≤_, _<_}
-use native.Mathlib.Nat.{zero-add, suc-add, mul-comm, mul-assoc, mod-lt, mod-eq-of-lt, mod-mod, div-add-mod', mul-mod-left, mul-div-cancel, mul-add-mod-self-right, pow-suc}
+use Prim.Native.Nat.{ℕ, zero, suc, _+_, _-_, _*_, _/_, _%_, _^_, _<_}
+use native.Mathlib.Nat.{zero-add, suc-add, mul-comm, mul-assoc, mod-lt, mod-eq-of-lt, div-add-mod', mul-mod-left, mul-div-cancel, mul-add-mod-self-right, pow-suc}
 use native.Mathlib.Omega.{arith}
 use lib.Arith.{digits-mod, digits-div}
 use lib.Bits.{bitXor, xor-block, xor-lt, xor-zero-r}
-use lib.ListN.{length, getD, take, drop, set, replicate, length-append, length-replicate, take-append-drop}
+use lib.ListN.{length, getD, take, drop, set, replicate, length-append, length-replicate}
 use lib.Pow.{pow-add, pow-pos, split}
-use lib.Seq.{take-set-le, drop-set-add, getD-drop}
+use Rattle.hash.proofs.Parts.{xorInto-nothing}
 use Rattle.hash.specs.Lists.{value, digits}
 use Rattle.hash.specs.Shake.{xorInto, pad101, bytesOf, padding}
-use Rattle.hash.proofs.Parts.{length-digits, xorInto-nothing}
 
 -- The last k + 1 bytes of a padded message: 1F, zeros, 80, or 9F where they are one.
 unfoldable pub lastBytes : ℕ → List ℕ

@@ -1,15 +1,14 @@
 -- Laws of strings as the loops of `src/strings.rt` build them: parts that are filled one after another, lanes as eight
 -- bytes, and bytes that are added one after another. Assumes nothing.
-use mathlib.Core.Path.{_≡_, refl, sym, ap, ap₂, _∙_, subst}
+use mathlib.Core.Path.{_≡_, refl, sym, ap, ap₂, _∙_}
 use mathlib.Core.List.{List, [], _∷_, _++_, append-assoc, append-nil}
 use Prim.Native.Nat.{ℕ, zero, suc, _+_, _-_, _*_, _/_, _%_, _^_, _≤_, _<_}
-use native.Mathlib.Nat.{add-zero, not-suc-le-zero, le-of-suc-le-suc, zero-lt-suc, div-div-eq-div-mul, mod-lt}
+use native.Mathlib.Nat.{not-suc-le-zero, le-of-suc-le-suc, div-div-eq-div-mul}
 use native.Mathlib.Numerals.{add-one, towards-suc}
 use native.Mathlib.Omega.{arith}
 use lib.Bits.{bitXor}
 use lib.ListN.{length, getD, take, drop, set, length-append, length-take, length-drop, drop-of-length-le}
-use lib.Seq.{take-append-add, take-append-seam, take-suc, drop-cons, length-take-le, sets-eq, take-all}
-use lib.Pow.{pow-pos}
+use lib.Seq.{take-append-seam, take-suc, drop-cons, sets-eq, take-all}
 use Rattle.hash.specs.Lists.{concatMap, value, digits}
 use Rattle.hash.specs.Shake.{xorInto}
 

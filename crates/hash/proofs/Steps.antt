@@ -1,22 +1,21 @@
 -- Laws of the sponge that takes and gives one byte after another: soundness, pieces, and a part within a block.
 -- Assumes nothing.
 use mathlib.Core.Path.{_≡_, refl, sym, ap, ap₂, _∙_, subst}
-use mathlib.Core.Bool.{Bool, true, false, cond}
-use mathlib.Core.Logic.{_⊎_, inl, inr, ⊎-elim}
+use mathlib.Core.Bool.{Bool, cond}
 use mathlib.Core.List.{List, [], _∷_, _++_}
+use mathlib.Core.Logic.{⊎-elim}
 use Prim.Native.Nat.{ℕ, zero, suc, _+_, _-_, _%_, _≤_, _<_}
 use native.Mathlib.Nat.{add-zero, zero-add, add-mod-right, mod-add-mod, eq-or-lt-of-le, not-suc-le-zero}
 use native.Mathlib.Numerals.{add-one}
 use native.Mathlib.Omega.{arith}
 use borrow.Author.Tests.{eq-eqb, ne-eqb}
 use lib.Bits.{bitXor}
-use lib.Dec.{eqb}
 use lib.ListN.{length, getD, take, drop, set, take-append-drop, length-take, length-drop}
 use lib.Seq.{drop-cons, take-add}
-use Rattle.hash.specs.Shake.{xorInto, permute, padding}
+use Rattle.hash.proofs.Parts.{patched, patched-rest, take-patched, take-rest, xorInto-nothing}
+use Rattle.hash.specs.Shake.{xorInto}
 use Rattle.hash.specs.Stream.{Sound, Squeezed, fresh, permuted, ready, absorbByte, absorbed, finished, nextByte, passed, squeezed, advanced}
 use Rattle.hash.specs.declared.sponge.Sponge.{Sponge}
-use Rattle.hash.proofs.Parts.{patched, patched-rest, take-patched, take-rest, xorInto-nothing}
 
 -- A sponge by its three fields.
 abbrev pub sponge : List ℕ → ℕ → ℕ → Sponge

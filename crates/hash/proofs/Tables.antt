@@ -4,9 +4,9 @@ use mathlib.Core.Path.{_≡_, refl, ap, _∙_}
 use mathlib.Core.List.{List, [], _∷_}
 use Prim.Native.Nat.{ℕ, _<_}
 use lib.ListN.{getD}
-use Rattle.hash.specs.Lists.{tabulate}
-use Rattle.hash.specs.Keccak.{state, lane, five, rotl, walk, walked, offset, rho, register, rc, roundConstant}
 use Rattle.hash.proofs.Entries.{tabulate-at}
+use Rattle.hash.specs.Keccak.{state, lane, five, rotl, walk, walked, offset, rho, register, rc, roundConstant}
+use Rattle.hash.specs.Lists.{tabulate}
 
 -- The offsets as the code has them.
 abbrev pub offsets : List (List ℕ)

@@ -1,7 +1,7 @@
 -- Keccak-f[1600] as FIPS 202, section 3, defines it, at lanes of 64 bits. A lane is the number whose bit z is the
 -- standard's A[x, y, z]; a state is five rows (y) of five lanes (x). Rests on nothing.
 use mathlib.Core.List.{List, [], _∷_}
-use Prim.Native.Nat.{ℕ, zero, suc, _+_, _-_, _*_, _/_, _%_, _^_, _<_}
+use Prim.Native.Nat.{ℕ, zero, suc, _+_, _-_, _*_, _/_, _%_, _^_}
 use lib.Bits.{bitXor, bitAnd}
 use lib.ListN.{getD, set}
 
@@ -109,11 +109,3 @@ rounds (suc n) a = round (roundConstant n) (rounds n a)
 -- Keccak-f[1600]: the 24 rounds.
 unfoldable pub keccakF : List (List ℕ) → List (List ℕ)
 keccakF a = rounds 24 a
-
--- Five offsets, each below the width of a lane.
-pub record Offsets (n : List ℕ) : Type 0 where
-  pub at0 : getD n 0 0 < 64
-  pub at1 : getD n 1 0 < 64
-  pub at2 : getD n 2 0 < 64
-  pub at3 : getD n 3 0 < 64
-  pub at4 : getD n 4 0 < 64

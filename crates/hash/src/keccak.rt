@@ -3,7 +3,8 @@
 ghost use mathlib.Core.Path.{_≡_};
 ghost use Prim.Native.Nat.{_<_};
 ghost use lib.ListN.{getD};
-ghost use Rattle.hash.specs.Keccak.{five, xorRow, effect, chiRow, Offsets, rotl as Keccak·rotl, theta as Keccak·theta, rho as Keccak·rho, pi as Keccak·pi, chi as Keccak·chi, iota as Keccak·iota, round as Keccak·round, keccakF};
+ghost use Rattle.hash.specs.Bounds.{Offsets};
+ghost use Rattle.hash.specs.Keccak.{five, xorRow, effect, chiRow, rotl as Keccak·rotl, theta as Keccak·theta, rho as Keccak·rho, pi as Keccak·pi, chi as Keccak·chi, iota as Keccak·iota, round as Keccak·round, keccakF};
 
 // The offsets of rho: row y, lane x.
 const OFFSETS: [[u32; 5]; 5] = [

@@ -1,33 +1,25 @@
+-- `hash::shake` meets its contract: a new sponge that takes the input gives SHAKE of it (`Laws`).
+-- Assumes nothing.
 use mathlib.Core.Path.{sym, ap, _∙_, subst}
-use lib.ListN.{length}
+use borrow.Author.Needs.{needs}
 use denote.Ref.{now}
+use lib.ListN.{length}
+use Rattle.hash.proofs.Laws.{squeezed-shake}
+use Rattle.hash.proofs.Steps.{sound-fresh, sound-absorbed, sound-finished}
+use Rattle.hash.proofs.shake.Statement.{statement}
 use Rattle.hash.specs.Stream.{Sound, absorbed, finished, squeezed}
 use Rattle.hash.specs.declared.sponge.Sponge.{Sponge}
-use Rattle.hash.proofs.Steps.{sound-fresh, sound-absorbed, sound-finished}
-use Rattle.hash.proofs.Laws.{squeezed-shake}
-use borrow.Author.Needs.{needs}
-use Rattle.hash.proofs.shake.Statement.{statement}
 use Rattle.hash.proofs.shake.Tie as tie
-use Rattle.hash.proofs.shake.Reads as reads
-use Rattle.hash.proofs.shake.Lts as lts
-use Rattle.hash.proofs.sponge.Sponge.absorb.Reads as absorb-reads
-use Rattle.hash.proofs.sponge.Sponge.finish.Reads as finish-reads
-use Rattle.hash.proofs.sponge.Sponge.new.Reads as new-reads
-use Rattle.hash.proofs.sponge.Sponge.squeeze.Reads as squeeze-reads
 
--- src/lib.rt:17:5
 new-requires : tie.Need-new-requires
 new-requires c κs = search needs
 
--- src/lib.rt:17:5
 absorb-requires : tie.Need-absorb-requires
 absorb-requires c κs = subst Sound (sym (c .new .ensures)) (sound-fresh _ (c .before .before .before .pre .0) (c .before .before .before .pre .1))
 
--- src/lib.rt:17:5
 finish-requires : tie.Need-finish-requires
 finish-requires c κs = subst Sound (sym (c .absorb .ensures)) (sound-absorbed _ _ (subst Sound (sym (c .before .new .ensures)) (sound-fresh _ (c .before .before .before .before .pre .0) (c .before .before .before .before .pre .1))))
 
--- src/lib.rt:17:5
 squeeze-requires : tie.Need-squeeze-requires
 squeeze-requires c κs =
     subst Sound (sym (c .before .finish .ensures))
@@ -35,11 +27,9 @@ squeeze-requires c κs =
     (subst Sound (sym (c .before .before .absorb .ensures))
     (sound-absorbed _ _ (subst Sound (sym (c .before .before .before .new .ensures)) (sound-fresh _ (c .before .before .before .before .before .before .pre .0) (c .before .before .before .before .before .before .pre .1))))))
 
--- src/lib.rt:13:1
 same-length : tie.Need-same-length
 same-length c = search needs
 
--- src/lib.rt:13:1
 returns : tie.Need-returns
 returns c =
     let a = c .before .before .before .before .before .before .before .before .before .args in

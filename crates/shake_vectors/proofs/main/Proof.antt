@@ -1,12 +1,10 @@
+-- `shake_vectors::main` meets its contract: the buffers keep their lengths, and the turns run down.
+-- Assumes nothing.
 use mathlib.Core.Path.{_≡_}
 use native.Mathlib.Omega.{arith}
 use lib.ListN.{length}
 use Rattle.shake_vectors.proofs.main.Statement.{statement}
 use Rattle.shake_vectors.proofs.main.Tie as tie
-use Rattle.shake_vectors.proofs.main.Reads as reads
-use Rattle.shake_vectors.proofs.main.Lts as lts
-use Rattle.io.proofs.large_buffer.Reads as large-buffer-reads
-use Rattle.shake_vectors.proofs.one_case.Reads as one-case-reads
 
 abbrev Inv-loop : tie.InvT-loop
 Inv-loop input₀ output₀ line₀ turns₀ input output line turns = (65536 ≡ length input) × (65536 ≡ length output) × (65536 ≡ length line)
@@ -14,55 +12,42 @@ Inv-loop input₀ output₀ line₀ turns₀ input output line turns = (65536 �
 abbrev μ-loop : tie.MeasureT-loop
 μ-loop input₀ output₀ line₀ turns₀ input output line turns = turns
 
--- src/main.rt:85:21
 large-buffer-requires : tie.Need-large-buffer-requires Inv-loop μ-loop
 large-buffer-requires c κs = tt
 
--- src/main.rt:86:22
 large-buffer-requires-2 : tie.Need-large-buffer-requires-2 Inv-loop μ-loop
 large-buffer-requires-2 c κs = tt
 
--- src/main.rt:87:20
 large-buffer-requires-3 : tie.Need-large-buffer-requires-3 Inv-loop μ-loop
 large-buffer-requires-3 c κs = tt
 
--- src/main.rt:89:5
 loop-holds : tie.Need-loop-holds Inv-loop μ-loop
 loop-holds c = omega arith
 
--- src/main.rt:90:22
 slice-aggregate-one-case : tie.Need-slice-aggregate-one-case Inv-loop μ-loop
 slice-aggregate-one-case c = omega arith
 
--- src/main.rt:90:34
 slice-aggregate-one-case-2 : tie.Need-slice-aggregate-one-case-2 Inv-loop μ-loop
 slice-aggregate-one-case-2 c = omega arith
 
--- src/main.rt:90:47
 slice-aggregate-one-case-3 : tie.Need-slice-aggregate-one-case-3 Inv-loop μ-loop
 slice-aggregate-one-case-3 c = omega arith
 
--- src/main.rt:90:13
 one-case-requires : tie.Need-one-case-requires Inv-loop μ-loop
 one-case-requires c κs = tt
 
--- src/main.rt:91:13
 returns : tie.Need-returns Inv-loop μ-loop
 returns c = tt
 
--- src/main.rt:93:9
 sub-turns : tie.Need-sub-turns Inv-loop μ-loop
 sub-turns c = omega arith
 
--- src/main.rt:89:5
 loop-less : tie.Need-loop-less Inv-loop μ-loop
 loop-less c = omega arith
 
--- src/main.rt:89:5
 loop-again : tie.Need-loop-again Inv-loop μ-loop
 loop-again c = omega arith
 
--- src/main.rt:84:1
 returns-2 : tie.Need-returns-2 Inv-loop μ-loop
 returns-2 c = tt
 

@@ -1,135 +1,101 @@
+-- `shake_vectors::one_case` meets its contract: the parts that it lends are within the buffers.
+-- Assumes nothing.
 use native.Mathlib.Omega.{arith}
-use lib.ListN.{length-take, length-drop, length-append}
 use borrow.Author.Needs.{needs}
+use lib.ListN.{length-take, length-drop, length-append}
 use Rattle.shake_vectors.proofs.one_case.Statement.{statement}
 use Rattle.shake_vectors.proofs.one_case.Tie as tie
-use Rattle.shake_vectors.proofs.one_case.Reads as reads
-use Rattle.shake_vectors.proofs.one_case.Lts as lts
-use Rattle.io.proofs.read_full.Reads as read-full-reads
-use Rattle.shake_vectors.proofs.answer.Reads as answer-reads
-use Rattle.shake_vectors.proofs.pair.Reads as pair-reads
 
--- src/main.rt:61:36
 slice-aggregate-read-full : tie.Need-slice-aggregate-read-full
 slice-aggregate-read-full c = search needs
 
--- src/main.rt:61:8
 read-full-requires : tie.Need-read-full-requires
 read-full-requires c κs = search needs
 
--- src/main.rt:62:9
 returns : tie.Need-returns
 returns c = search needs
 
--- src/main.rt:64:18
 array-read-pair : tie.Need-array-read-pair
 array-read-pair c = search needs
 
--- src/main.rt:64:27
 array-read-pair-2 : tie.Need-array-read-pair-2
 array-read-pair-2 c = search needs
 
--- src/main.rt:64:9
 pair-requires : tie.Need-pair-requires
 pair-requires c κs = search needs
 
--- src/main.rt:65:18
 array-read-pair-3 : tie.Need-array-read-pair-3
 array-read-pair-3 c = search needs
 
--- src/main.rt:65:27
 array-read-pair-4 : tie.Need-array-read-pair-4
 array-read-pair-4 c = search needs
 
--- src/main.rt:65:9
 pair-requires-2 : tie.Need-pair-requires-2
 pair-requires-2 c κs = search needs
 
--- src/main.rt:66:15
 mul-end : tie.Need-mul-end
 mul-end c = omega arith
 
--- src/main.rt:66:15
 add-end : tie.Need-add-end
 add-end c = omega arith
 
--- src/main.rt:68:9
 returns-2 : tie.Need-returns-2
 returns-2 c = search needs
 
--- src/main.rt:71:9
 returns-3 : tie.Need-returns-3
 returns-3 c = search needs
 
--- src/main.rt:74:9
 returns-4 : tie.Need-returns-4
 returns-4 c = search needs
 
--- src/main.rt:76:36
 slice-relend-prefix-read-full : tie.Need-slice-relend-prefix-read-full
 slice-relend-prefix-read-full c = search needs
 
--- src/main.rt:76:36
 slice-aggregate-read-full-2 : tie.Need-slice-aggregate-read-full-2
 slice-aggregate-read-full-2 c = simp length-take (omega arith)
 
--- src/main.rt:76:8
 read-full-requires-2 : tie.Need-read-full-requires-2
 read-full-requires-2 c κs = search needs
 
--- src/main.rt:77:9
 same-length : tie.Need-same-length
 same-length c = search needs
 
--- src/main.rt:77:9
 returns-5 : tie.Need-returns-5
 returns-5 c = search needs
 
--- src/main.rt:79:12
 array-read-answer : tie.Need-array-read-answer
 array-read-answer c = search needs
 
--- src/main.rt:79:21
 slice-reshare-prefix-answer : tie.Need-slice-reshare-prefix-answer
 slice-reshare-prefix-answer c = search needs
 
--- src/main.rt:79:21
 slice-aggregate-answer : tie.Need-slice-aggregate-answer
 slice-aggregate-answer c = simp (length-take, length-append, length-drop) (omega arith)
 
--- src/main.rt:79:34
 slice-relend-prefix-answer : tie.Need-slice-relend-prefix-answer
 slice-relend-prefix-answer c = search needs
 
--- src/main.rt:79:34
 slice-aggregate-answer-2 : tie.Need-slice-aggregate-answer-2
 slice-aggregate-answer-2 c = simp length-take (omega arith)
 
--- src/main.rt:79:52
 slice-relend-prefix-answer-2 : tie.Need-slice-relend-prefix-answer-2
 slice-relend-prefix-answer-2 c = search needs
 
--- src/main.rt:79:52
 slice-aggregate-answer-3 : tie.Need-slice-aggregate-answer-3
 slice-aggregate-answer-3 c = simp length-take (omega arith)
 
--- src/main.rt:79:5
 answer-requires : tie.Need-answer-requires
 answer-requires c κs = simp length-take (omega arith)
 
--- src/main.rt:59:1
 same-length-2 : tie.Need-same-length-2
 same-length-2 c = search needs
 
--- src/main.rt:59:1
 same-length-3 : tie.Need-same-length-3
 same-length-3 c = search needs
 
--- src/main.rt:59:1
 same-length-4 : tie.Need-same-length-4
 same-length-4 c = search needs
 
--- src/main.rt:59:1
 returns-6 : tie.Need-returns-6
 returns-6 c = search needs
 

@@ -1,53 +1,41 @@
-use Rattle.hash.specs.Keccak.{chi}
-use Rattle.hash.proofs.Rows.{five-equal}
+-- `hash::keccak::chi` meets its contract: each row is chi of its row.
+-- Assumes nothing.
 use borrow.Author.Needs.{needs}
+use Rattle.hash.proofs.Rows.{five-equal}
 use Rattle.hash.proofs.keccak.chi.Statement.{statement}
+use Rattle.hash.specs.Keccak.{chi}
 use Rattle.hash.proofs.keccak.chi.Tie as tie
-use Rattle.hash.proofs.keccak.chi.Reads as reads
-use Rattle.hash.proofs.keccak.chi.Lts as lts
-use Rattle.hash.proofs.keccak.chi_row.Reads as chi-row-reads
 
--- src/keccak.rt:153:17
 array-copy-out-chi-row : tie.Need-array-copy-out-chi-row
 array-copy-out-chi-row c = search needs
 
--- src/keccak.rt:153:9
 chi-row-requires : tie.Need-chi-row-requires
 chi-row-requires c κs = search needs
 
--- src/keccak.rt:154:17
 array-copy-out-chi-row-2 : tie.Need-array-copy-out-chi-row-2
 array-copy-out-chi-row-2 c = search needs
 
--- src/keccak.rt:154:9
 chi-row-requires-2 : tie.Need-chi-row-requires-2
 chi-row-requires-2 c κs = search needs
 
--- src/keccak.rt:155:17
 array-copy-out-chi-row-3 : tie.Need-array-copy-out-chi-row-3
 array-copy-out-chi-row-3 c = search needs
 
--- src/keccak.rt:155:9
 chi-row-requires-3 : tie.Need-chi-row-requires-3
 chi-row-requires-3 c κs = search needs
 
--- src/keccak.rt:156:17
 array-copy-out-chi-row-4 : tie.Need-array-copy-out-chi-row-4
 array-copy-out-chi-row-4 c = search needs
 
--- src/keccak.rt:156:9
 chi-row-requires-4 : tie.Need-chi-row-requires-4
 chi-row-requires-4 c κs = search needs
 
--- src/keccak.rt:157:17
 array-copy-out-chi-row-5 : tie.Need-array-copy-out-chi-row-5
 array-copy-out-chi-row-5 c = search needs
 
--- src/keccak.rt:157:9
 chi-row-requires-5 : tie.Need-chi-row-requires-5
 chi-row-requires-5 c κs = search needs
 
--- src/keccak.rt:149:1
 returns : tie.Need-returns
 unfolding chi
 returns c =

@@ -1,14 +1,13 @@
+-- `hash::keccak::keccak_f` meets its contract: after i turns the state has had the first i rounds, each with the constant of its round from the table.
+-- Assumes nothing.
 use mathlib.Core.Path.{_≡_, refl, ap, ap₂, _∙_}
 use Prim.Native.Nat.{ℕ, _≤_, _-_}
 use native.Mathlib.Numerals.{add-one}
 use native.Mathlib.Omega.{arith}
-use Rattle.hash.specs.Keccak.{round, rounds, keccakF}
 use Rattle.hash.proofs.Tables.{constant-at}
 use Rattle.hash.proofs.keccak.keccak_f.Statement.{statement}
+use Rattle.hash.specs.Keccak.{round, rounds, keccakF}
 use Rattle.hash.proofs.keccak.keccak_f.Tie as tie
-use Rattle.hash.proofs.keccak.keccak_f.Reads as reads
-use Rattle.hash.proofs.keccak.keccak_f.Lts as lts
-use Rattle.hash.proofs.keccak.round.Reads as round-reads
 
 abbrev Inv-loop : tie.InvT-loop
 Inv-loop constants s₀ i₀ s i = (i ≤ 24) × (s ≡ rounds i s₀)
@@ -16,39 +15,31 @@ Inv-loop constants s₀ i₀ s i = (i ≤ 24) × (s ≡ rounds i s₀)
 abbrev μ-loop : tie.MeasureT-loop
 μ-loop constants s₀ i₀ s i = 24 - i
 
--- src/keccak.rt:180:5
 loop-holds : tie.Need-loop-holds Inv-loop μ-loop
 unfolding rounds
 loop-holds c = (omega arith, refl)
 
--- src/keccak.rt:181:26
 mul-round : tie.Need-mul-round Inv-loop μ-loop
 mul-round c = omega arith
 
--- src/keccak.rt:181:26
 array-read-round : tie.Need-array-read-round Inv-loop μ-loop
 array-read-round c = omega arith
 
--- src/keccak.rt:181:13
 round-requires : tie.Need-round-requires Inv-loop μ-loop
 round-requires c κs = tt
 
--- src/keccak.rt:183:9
 add-i : tie.Need-add-i Inv-loop μ-loop
 add-i c = omega arith
 
--- src/keccak.rt:180:5
 loop-less : tie.Need-loop-less Inv-loop μ-loop
 loop-less c = omega arith
 
--- src/keccak.rt:180:5
 loop-again : tie.Need-loop-again Inv-loop μ-loop
 unfolding rounds
 loop-again c =
     let h = c .before .before .loop in
     (omega arith, rw add-one (c .round .ensures ∙ ap₂ round (constant-at (h .i) (omega arith)) (h .inv .1)))
 
--- src/keccak.rt:174:1
 returns : tie.Need-returns Inv-loop μ-loop
 unfolding keccakF
 returns c =

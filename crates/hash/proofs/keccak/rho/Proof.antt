@@ -1,74 +1,57 @@
-use Rattle.hash.proofs.Tables.{rho-by-table}
+-- `hash::keccak::rho` meets its contract: each row is turned by its row of the table, which holds the offsets of the walk.
+-- Assumes nothing.
 use mathlib.Core.Path.{_∙_}
-use Rattle.hash.proofs.Rows.{five-equal}
 use borrow.Author.Needs.{needs}
+use Rattle.hash.proofs.Rows.{five-equal}
+use Rattle.hash.proofs.Tables.{rho-by-table}
 use Rattle.hash.proofs.keccak.rho.Statement.{statement}
 use Rattle.hash.proofs.keccak.rho.Tie as tie
-use Rattle.hash.proofs.keccak.rho.Reads as reads
-use Rattle.hash.proofs.keccak.rho.Lts as lts
-use Rattle.hash.proofs.keccak.rotate_row.Reads as rotate-row-reads
 
--- src/keccak.rt:112:20
 array-copy-out-rotate-row : tie.Need-array-copy-out-rotate-row
 array-copy-out-rotate-row c = search needs
 
--- src/keccak.rt:112:26
 array-copy-out-rotate-row-2 : tie.Need-array-copy-out-rotate-row-2
 array-copy-out-rotate-row-2 c = search needs
 
--- src/keccak.rt:112:9
 rotate-row-requires : tie.Need-rotate-row-requires
 rotate-row-requires c κs = search needs
 
--- src/keccak.rt:113:20
 array-copy-out-rotate-row-3 : tie.Need-array-copy-out-rotate-row-3
 array-copy-out-rotate-row-3 c = search needs
 
--- src/keccak.rt:113:26
 array-copy-out-rotate-row-4 : tie.Need-array-copy-out-rotate-row-4
 array-copy-out-rotate-row-4 c = search needs
 
--- src/keccak.rt:113:9
 rotate-row-requires-2 : tie.Need-rotate-row-requires-2
 rotate-row-requires-2 c κs = search needs
 
--- src/keccak.rt:114:20
 array-copy-out-rotate-row-5 : tie.Need-array-copy-out-rotate-row-5
 array-copy-out-rotate-row-5 c = search needs
 
--- src/keccak.rt:114:26
 array-copy-out-rotate-row-6 : tie.Need-array-copy-out-rotate-row-6
 array-copy-out-rotate-row-6 c = search needs
 
--- src/keccak.rt:114:9
 rotate-row-requires-3 : tie.Need-rotate-row-requires-3
 rotate-row-requires-3 c κs = search needs
 
--- src/keccak.rt:115:20
 array-copy-out-rotate-row-7 : tie.Need-array-copy-out-rotate-row-7
 array-copy-out-rotate-row-7 c = search needs
 
--- src/keccak.rt:115:26
 array-copy-out-rotate-row-8 : tie.Need-array-copy-out-rotate-row-8
 array-copy-out-rotate-row-8 c = search needs
 
--- src/keccak.rt:115:9
 rotate-row-requires-4 : tie.Need-rotate-row-requires-4
 rotate-row-requires-4 c κs = search needs
 
--- src/keccak.rt:116:20
 array-copy-out-rotate-row-9 : tie.Need-array-copy-out-rotate-row-9
 array-copy-out-rotate-row-9 c = search needs
 
--- src/keccak.rt:116:26
 array-copy-out-rotate-row-10 : tie.Need-array-copy-out-rotate-row-10
 array-copy-out-rotate-row-10 c = search needs
 
--- src/keccak.rt:116:9
 rotate-row-requires-5 : tie.Need-rotate-row-requires-5
 rotate-row-requires-5 c κs = search needs
 
--- src/keccak.rt:107:1
 returns : tie.Need-returns
 returns c =
     five-equal

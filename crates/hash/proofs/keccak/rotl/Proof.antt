@@ -1,27 +1,22 @@
+-- `hash::keccak::rotl` meets its contract: the two shifts join to the rotation.
+-- Assumes nothing.
 use borrow.Author.Needs.{needs}
 use Rattle.hash.proofs.Rows.{rotl-shifts}
 use Rattle.hash.proofs.keccak.rotl.Statement.{statement}
 use Rattle.hash.proofs.keccak.rotl.Tie as tie
-use Rattle.hash.proofs.keccak.rotl.Reads as reads
-use Rattle.hash.proofs.keccak.rotl.Lts as lts
 
--- src/keccak.rt:50:6
 shl-result : tie.Need-shl-result
 shl-result c = search needs
 
--- src/keccak.rt:50:24
 sub-result : tie.Need-sub-result
 sub-result c = search needs
 
--- src/keccak.rt:50:23
 cast-result : tie.Need-cast-result
 cast-result c = search needs
 
--- src/keccak.rt:50:17
 shr-result : tie.Need-shr-result
 shr-result c = search needs
 
--- src/keccak.rt:46:1
 returns : tie.Need-returns
 returns c = rotl-shifts (c .args .n) (c .args .v) (c .pre) (c .fits .v .fits)
 

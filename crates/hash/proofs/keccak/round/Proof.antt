@@ -1,37 +1,26 @@
-use Rattle.hash.specs.Keccak.{rho, pi, chi, iota, round}
+-- `hash::keccak::round` meets its contract: the five steps, one after another.
+-- Assumes nothing.
 use mathlib.Core.Path.{ap, _∙_}
 use borrow.Author.Needs.{needs}
 use Rattle.hash.proofs.keccak.round.Statement.{statement}
+use Rattle.hash.specs.Keccak.{rho, pi, chi, iota, round}
 use Rattle.hash.proofs.keccak.round.Tie as tie
-use Rattle.hash.proofs.keccak.round.Reads as reads
-use Rattle.hash.proofs.keccak.round.Lts as lts
-use Rattle.hash.proofs.keccak.chi.Reads as chi-reads
-use Rattle.hash.proofs.keccak.iota.Reads as iota-reads
-use Rattle.hash.proofs.keccak.pi.Reads as pi-reads
-use Rattle.hash.proofs.keccak.rho.Reads as rho-reads
-use Rattle.hash.proofs.keccak.theta.Reads as theta-reads
 
--- src/keccak.rt:171:21
 theta-requires : tie.Need-theta-requires
 theta-requires c κs = search needs
 
--- src/keccak.rt:171:17
 rho-requires : tie.Need-rho-requires
 rho-requires c κs = search needs
 
--- src/keccak.rt:171:14
 pi-requires : tie.Need-pi-requires
 pi-requires c κs = search needs
 
--- src/keccak.rt:171:10
 chi-requires : tie.Need-chi-requires
 chi-requires c κs = search needs
 
--- src/keccak.rt:171:5
 iota-requires : tie.Need-iota-requires
 iota-requires c κs = search needs
 
--- src/keccak.rt:168:1
 returns : tie.Need-returns
 unfolding round
 returns c =

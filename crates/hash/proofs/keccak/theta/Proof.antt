@@ -1,98 +1,75 @@
-use Rattle.hash.specs.Keccak.{theta, five, column, effect, xorRow}
-use lib.ListN.{getD}
-use Prim.Native.Nat.{ℕ}
-use mathlib.Core.List.{List, []}
+-- `hash::keccak::theta` meets its contract: the parities are those of the columns, and each row has their effects added.
+-- Assumes nothing.
 use mathlib.Core.Path.{_≡_, ap, _∙_}
-use Rattle.hash.proofs.Rows.{five-equal}
+use mathlib.Core.List.{List, []}
+use Prim.Native.Nat.{ℕ}
 use borrow.Author.Needs.{needs}
+use lib.ListN.{getD}
+use Rattle.hash.proofs.Rows.{five-equal}
 use Rattle.hash.proofs.keccak.theta.Statement.{statement}
+use Rattle.hash.specs.Keccak.{theta, five, column, effect, xorRow}
 use Rattle.hash.proofs.keccak.theta.Tie as tie
-use Rattle.hash.proofs.keccak.theta.Reads as reads
-use Rattle.hash.proofs.keccak.theta.Lts as lts
-use Rattle.hash.proofs.keccak.effects.Reads as effects-reads
-use Rattle.hash.proofs.keccak.xor_row.Reads as xor-row-reads
 
--- src/keccak.rt:80:45
 array-copy-out-xor-row : tie.Need-array-copy-out-xor-row
 array-copy-out-xor-row c = search needs
 
--- src/keccak.rt:80:51
 array-copy-out-xor-row-2 : tie.Need-array-copy-out-xor-row-2
 array-copy-out-xor-row-2 c = search needs
 
--- src/keccak.rt:80:37
 xor-row-requires : tie.Need-xor-row-requires
 xor-row-requires c κs = search needs
 
--- src/keccak.rt:80:58
 array-copy-out-xor-row-3 : tie.Need-array-copy-out-xor-row-3
 array-copy-out-xor-row-3 c = search needs
 
--- src/keccak.rt:80:29
 xor-row-requires-2 : tie.Need-xor-row-requires-2
 xor-row-requires-2 c κs = search needs
 
--- src/keccak.rt:80:65
 array-copy-out-xor-row-4 : tie.Need-array-copy-out-xor-row-4
 array-copy-out-xor-row-4 c = search needs
 
--- src/keccak.rt:80:21
 xor-row-requires-3 : tie.Need-xor-row-requires-3
 xor-row-requires-3 c κs = search needs
 
--- src/keccak.rt:80:72
 array-copy-out-xor-row-5 : tie.Need-array-copy-out-xor-row-5
 array-copy-out-xor-row-5 c = search needs
 
--- src/keccak.rt:80:9
 xor-row-requires-4 : tie.Need-xor-row-requires-4
 xor-row-requires-4 c κs = search needs
 
--- src/keccak.rt:81:9
 effects-requires : tie.Need-effects-requires
 effects-requires c κs = search needs
 
--- src/keccak.rt:83:17
 array-copy-out-xor-row-6 : tie.Need-array-copy-out-xor-row-6
 array-copy-out-xor-row-6 c = search needs
 
--- src/keccak.rt:83:9
 xor-row-requires-5 : tie.Need-xor-row-requires-5
 xor-row-requires-5 c κs = search needs
 
--- src/keccak.rt:84:17
 array-copy-out-xor-row-7 : tie.Need-array-copy-out-xor-row-7
 array-copy-out-xor-row-7 c = search needs
 
--- src/keccak.rt:84:9
 xor-row-requires-6 : tie.Need-xor-row-requires-6
 xor-row-requires-6 c κs = search needs
 
--- src/keccak.rt:85:17
 array-copy-out-xor-row-8 : tie.Need-array-copy-out-xor-row-8
 array-copy-out-xor-row-8 c = search needs
 
--- src/keccak.rt:85:9
 xor-row-requires-7 : tie.Need-xor-row-requires-7
 xor-row-requires-7 c κs = search needs
 
--- src/keccak.rt:86:17
 array-copy-out-xor-row-9 : tie.Need-array-copy-out-xor-row-9
 array-copy-out-xor-row-9 c = search needs
 
--- src/keccak.rt:86:9
 xor-row-requires-8 : tie.Need-xor-row-requires-8
 xor-row-requires-8 c κs = search needs
 
--- src/keccak.rt:87:17
 array-copy-out-xor-row-10 : tie.Need-array-copy-out-xor-row-10
 array-copy-out-xor-row-10 c = search needs
 
--- src/keccak.rt:87:9
 xor-row-requires-9 : tie.Need-xor-row-requires-9
 xor-row-requires-9 c κs = search needs
 
--- src/keccak.rt:77:1
 returns : tie.Need-returns
 unfolding theta
 returns c =

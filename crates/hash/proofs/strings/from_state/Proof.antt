@@ -1,18 +1,17 @@
+-- `hash::strings::from_state` meets its contract: the string is filled row by row.
+-- Assumes nothing.
 use mathlib.Core.Path.{_≡_, refl, sym, ap, _∙_}
-use mathlib.Core.List.{List, [], _∷_, _++_}
+use mathlib.Core.List.{[]}
 use Prim.Native.Nat.{ℕ, _+_, _*_, _≤_, _-_}
 use native.Mathlib.Omega.{arith}
 use borrow.Author.Needs.{needs}
-use lib.ListN.{length, take, drop, getD, length-take, length-drop, length-replicate}
+use lib.ListN.{length, take, getD, length-take, length-drop, length-replicate}
 use lib.Seq.{take-all}
-use Rattle.hash.specs.Lists.{concatMap}
-use Rattle.hash.specs.Shake.{rowString, fromState}
 use Rattle.hash.proofs.Parts.{fill-more, length-patched}
 use Rattle.hash.proofs.strings.from_state.Statement.{statement}
+use Rattle.hash.specs.Lists.{concatMap}
+use Rattle.hash.specs.Shake.{rowString, fromState}
 use Rattle.hash.proofs.strings.from_state.Tie as tie
-use Rattle.hash.proofs.strings.from_state.Reads as reads
-use Rattle.hash.proofs.strings.from_state.Lts as lts
-use Rattle.hash.proofs.strings.store_row.Reads as store-row-reads
 
 abbrev Inv-loop : tie.InvT-loop
 Inv-loop a s₀ y₀ s y = (y ≤ 5) × (length s ≡ 200) × (take (40 * y) s ≡ concatMap rowString (take y a))
@@ -20,56 +19,43 @@ Inv-loop a s₀ y₀ s y = (y ≤ 5) × (length s ≡ 200) × (take (40 * y) s �
 abbrev μ-loop : tie.MeasureT-loop
 μ-loop a s₀ y₀ s y = 5 - y
 
--- src/strings.rt:78:5
 loop-holds : tie.Need-loop-holds Inv-loop μ-loop
 unfolding concatMap
 loop-holds c = (omega arith, length-replicate {A = ℕ} 200 0, refl)
 
--- src/strings.rt:79:26
 mul-s : tie.Need-mul-s Inv-loop μ-loop
 mul-s c = omega arith
 
--- src/strings.rt:79:34
 mul-store-row : tie.Need-mul-store-row Inv-loop μ-loop
 mul-store-row c = omega arith
 
--- src/strings.rt:79:34
 add-store-row : tie.Need-add-store-row Inv-loop μ-loop
 add-store-row c = omega arith
 
--- src/strings.rt:79:19
 sub-store-row : tie.Need-sub-store-row Inv-loop μ-loop
 sub-store-row c = omega arith
 
--- src/strings.rt:79:19
 part-s-start : tie.Need-part-s-start Inv-loop μ-loop
 part-s-start c = omega arith
 
--- src/strings.rt:79:19
 part-s-end : tie.Need-part-s-end Inv-loop μ-loop
 part-s-end c = omega arith
 
--- src/strings.rt:79:48
 mul-store-row-2 : tie.Need-mul-store-row-2 Inv-loop μ-loop
 mul-store-row-2 c = omega arith
 
--- src/strings.rt:79:48
 array-copy-out-store-row : tie.Need-array-copy-out-store-row Inv-loop μ-loop
 array-copy-out-store-row c = omega arith
 
--- src/strings.rt:79:9
 store-row-requires : tie.Need-store-row-requires Inv-loop μ-loop
 store-row-requires c κs = simp (length-take, length-drop) (omega arith)
 
--- src/strings.rt:80:9
 add-y : tie.Need-add-y Inv-loop μ-loop
 add-y c = omega arith
 
--- src/strings.rt:78:5
 loop-less : tie.Need-loop-less Inv-loop μ-loop
 loop-less c = omega arith
 
--- src/strings.rt:78:5
 loop-again : tie.Need-loop-again Inv-loop μ-loop
 loop-again c =
     let h = c .before .before .before .before .before .loop in
@@ -86,7 +72,6 @@ loop-again c =
           (fill-more rowString a [] 40 (h .y) (h .s) bytes (omega arith) (ap length (sym wrote) ∙ forty) (omega arith) wrote (h .inv .2)),
     )
 
--- src/strings.rt:73:1
 returns : tie.Need-returns Inv-loop μ-loop
 unfolding fromState
 returns c =

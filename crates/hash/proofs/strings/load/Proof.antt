@@ -1,105 +1,80 @@
+-- `hash::strings::load` meets its contract: the lane is joined from its eight bytes.
+-- Assumes nothing.
+use borrow.Author.Needs.{needs}
 use denote.Ref.{now}
 use Rattle.hash.proofs.Parts.{lane-joined}
-use borrow.Author.Needs.{needs}
 use Rattle.hash.proofs.strings.load.Statement.{statement}
 use Rattle.hash.proofs.strings.load.Tie as tie
-use Rattle.hash.proofs.strings.load.Reads as reads
-use Rattle.hash.proofs.strings.load.Lts as lts
-use Rattle.hash.proofs.strings.join.Reads as join-reads
 
--- src/strings.rt:23:23
 add-join : tie.Need-add-join
 add-join c = search needs
 
--- src/strings.rt:23:21
 shared-slice-read-join : tie.Need-shared-slice-read-join
 shared-slice-read-join c = search needs
 
--- src/strings.rt:23:38
 add-join-2 : tie.Need-add-join-2
 add-join-2 c = search needs
 
--- src/strings.rt:23:36
 shared-slice-read-join-2 : tie.Need-shared-slice-read-join-2
 shared-slice-read-join-2 c = search needs
 
--- src/strings.rt:23:53
 add-join-3 : tie.Need-add-join-3
 add-join-3 c = search needs
 
--- src/strings.rt:23:51
 shared-slice-read-join-3 : tie.Need-shared-slice-read-join-3
 shared-slice-read-join-3 c = search needs
 
--- src/strings.rt:23:68
 add-join-4 : tie.Need-add-join-4
 add-join-4 c = search needs
 
--- src/strings.rt:23:66
 shared-slice-read-join-4 : tie.Need-shared-slice-read-join-4
 shared-slice-read-join-4 c = search needs
 
--- src/strings.rt:23:61
 join-requires : tie.Need-join-requires
 join-requires c κs = search needs
 
--- src/strings.rt:23:46
 join-requires-2 : tie.Need-join-requires-2
 join-requires-2 c κs = search needs
 
--- src/strings.rt:23:31
 join-requires-3 : tie.Need-join-requires-3
 join-requires-3 c κs = search needs
 
--- src/strings.rt:23:9
 join-requires-4 : tie.Need-join-requires-4
 join-requires-4 c κs = search needs
 
--- src/strings.rt:24:10
 shared-slice-read-join-5 : tie.Need-shared-slice-read-join-5
 shared-slice-read-join-5 c = search needs
 
--- src/strings.rt:24:23
 add-join-5 : tie.Need-add-join-5
 add-join-5 c = search needs
 
--- src/strings.rt:24:21
 shared-slice-read-join-6 : tie.Need-shared-slice-read-join-6
 shared-slice-read-join-6 c = search needs
 
--- src/strings.rt:24:38
 add-join-6 : tie.Need-add-join-6
 add-join-6 c = search needs
 
--- src/strings.rt:24:36
 shared-slice-read-join-7 : tie.Need-shared-slice-read-join-7
 shared-slice-read-join-7 c = search needs
 
--- src/strings.rt:24:53
 add-join-7 : tie.Need-add-join-7
 add-join-7 c = search needs
 
--- src/strings.rt:24:51
 shared-slice-read-join-8 : tie.Need-shared-slice-read-join-8
 shared-slice-read-join-8 c = search needs
 
--- src/strings.rt:24:46
 join-requires-5 : tie.Need-join-requires-5
 join-requires-5 c κs = search needs
 
--- src/strings.rt:24:31
 join-requires-6 : tie.Need-join-requires-6
 join-requires-6 c κs = search needs
 
--- src/strings.rt:24:16
 join-requires-7 : tie.Need-join-requires-7
 join-requires-7 c κs = search needs
 
--- src/strings.rt:24:5
 join-requires-8 : tie.Need-join-requires-8
 join-requires-8 c κs = search needs
 
--- src/strings.rt:19:1
 returns : tie.Need-returns
 returns c =
     let a = c .before .before .before .before .before .before .before .before .before .before .before .before .before .before .before .before .before .args in

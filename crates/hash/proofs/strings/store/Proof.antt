@@ -1,83 +1,65 @@
+-- `hash::strings::store` meets its contract: the eight bytes are the lane's digits.
+-- Assumes nothing.
 use mathlib.Core.Path.{_∙_, sym}
 use native.Mathlib.Omega.{arith}
-use lib.ListN.{length-set}
-use denote.Ref.{now}
-use Rattle.hash.proofs.Parts.{eight-written, eight-digits}
 use borrow.Author.Needs.{needs}
+use denote.Ref.{now}
+use lib.ListN.{length-set}
+use Rattle.hash.proofs.Parts.{eight-written, eight-digits}
 use Rattle.hash.proofs.strings.store.Statement.{statement}
 use Rattle.hash.proofs.strings.store.Tie as tie
-use Rattle.hash.proofs.strings.store.Reads as reads
-use Rattle.hash.proofs.strings.store.Lts as lts
 
--- src/strings.rt:52:14
 cast-dst : tie.Need-cast-dst
 cast-dst c = search needs
 
--- src/strings.rt:52:5
 slice-write-dst : tie.Need-slice-write-dst
 slice-write-dst c = search needs
 
--- src/strings.rt:53:14
 cast-dst-2 : tie.Need-cast-dst-2
 cast-dst-2 c = search needs
 
--- src/strings.rt:53:5
 slice-write-dst-2 : tie.Need-slice-write-dst-2
 slice-write-dst-2 c = search needs
 
--- src/strings.rt:54:14
 cast-dst-3 : tie.Need-cast-dst-3
 cast-dst-3 c = search needs
 
--- src/strings.rt:54:5
 slice-write-dst-3 : tie.Need-slice-write-dst-3
 slice-write-dst-3 c = search needs
 
--- src/strings.rt:55:14
 cast-dst-4 : tie.Need-cast-dst-4
 cast-dst-4 c = search needs
 
--- src/strings.rt:55:5
 slice-write-dst-4 : tie.Need-slice-write-dst-4
 slice-write-dst-4 c = search needs
 
--- src/strings.rt:56:14
 cast-dst-5 : tie.Need-cast-dst-5
 cast-dst-5 c = search needs
 
--- src/strings.rt:56:5
 slice-write-dst-5 : tie.Need-slice-write-dst-5
 slice-write-dst-5 c = simp length-set (omega arith)
 
--- src/strings.rt:57:14
 cast-dst-6 : tie.Need-cast-dst-6
 cast-dst-6 c = search needs
 
--- src/strings.rt:57:5
 slice-write-dst-6 : tie.Need-slice-write-dst-6
 slice-write-dst-6 c = simp length-set (omega arith)
 
--- src/strings.rt:58:14
 cast-dst-7 : tie.Need-cast-dst-7
 cast-dst-7 c = search needs
 
--- src/strings.rt:58:5
 slice-write-dst-7 : tie.Need-slice-write-dst-7
 slice-write-dst-7 c = simp length-set (omega arith)
 
--- src/strings.rt:59:14
 cast-dst-8 : tie.Need-cast-dst-8
 cast-dst-8 c = search needs
 
--- src/strings.rt:59:5
 slice-write-dst-8 : tie.Need-slice-write-dst-8
 slice-write-dst-8 c = simp length-set (omega arith)
 
--- src/strings.rt:48:1
 same-length : tie.Need-same-length
 same-length c = simp length-set
 
--- src/strings.rt:48:1
 returns : tie.Need-returns
 returns c =
     let a = c .args in

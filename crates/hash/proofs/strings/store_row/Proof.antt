@@ -1,20 +1,16 @@
-use lib.ListN.{length-take, length-drop}
-use Prim.Native.Nat.{_+_}
+-- `hash::strings::store_row` meets its contract: the string is filled lane by lane.
+-- Assumes nothing.
 use mathlib.Core.Path.{_≡_, refl, sym, ap, _∙_}
-use mathlib.Core.List.{List, [], _∷_, _++_}
-use Prim.Native.Nat.{ℕ, _*_, _≤_, _-_}
+use Prim.Native.Nat.{_+_, _*_, _≤_, _-_}
 use native.Mathlib.Omega.{arith}
 use borrow.Author.Needs.{needs}
-use lib.ListN.{length, take, getD}
+use lib.ListN.{length-take, length-drop, length, take, getD}
 use lib.Seq.{take-all}
-use Rattle.hash.specs.Lists.{concatMap, digits}
-use Rattle.hash.specs.Shake.{rowString}
 use Rattle.hash.proofs.Parts.{fill-more, length-patched, length-digits}
 use Rattle.hash.proofs.strings.store_row.Statement.{statement}
+use Rattle.hash.specs.Lists.{concatMap, digits}
+use Rattle.hash.specs.Shake.{rowString}
 use Rattle.hash.proofs.strings.store_row.Tie as tie
-use Rattle.hash.proofs.strings.store_row.Reads as reads
-use Rattle.hash.proofs.strings.store_row.Lts as lts
-use Rattle.hash.proofs.strings.store.Reads as store-reads
 
 abbrev Inv-loop : tie.InvT-loop
 Inv-loop dst₀ p x₀ dst x = (x ≤ 5) × (length dst ≡ 40) × (take (8 * x) dst ≡ concatMap (digits 8 8) (take x p))
@@ -22,56 +18,43 @@ Inv-loop dst₀ p x₀ dst x = (x ≤ 5) × (length dst ≡ 40) × (take (8 * x)
 abbrev μ-loop : tie.MeasureT-loop
 μ-loop dst₀ p x₀ dst x = 5 - x
 
--- src/strings.rt:67:5
 loop-holds : tie.Need-loop-holds Inv-loop μ-loop
 unfolding concatMap
 loop-holds c = (omega arith, c .before .pre, refl)
 
--- src/strings.rt:68:24
 mul-store : tie.Need-mul-store Inv-loop μ-loop
 mul-store c = omega arith
 
--- src/strings.rt:68:31
 mul-store-2 : tie.Need-mul-store-2 Inv-loop μ-loop
 mul-store-2 c = omega arith
 
--- src/strings.rt:68:31
 add-store : tie.Need-add-store Inv-loop μ-loop
 add-store c = omega arith
 
--- src/strings.rt:68:15
 sub-store : tie.Need-sub-store Inv-loop μ-loop
 sub-store c = omega arith
 
--- src/strings.rt:68:15
 part-store-start : tie.Need-part-store-start Inv-loop μ-loop
 part-store-start c = omega arith
 
--- src/strings.rt:68:15
 part-store-end : tie.Need-part-store-end Inv-loop μ-loop
 part-store-end c = omega arith
 
--- src/strings.rt:68:43
 mul-store-3 : tie.Need-mul-store-3 Inv-loop μ-loop
 mul-store-3 c = omega arith
 
--- src/strings.rt:68:43
 array-read-store : tie.Need-array-read-store Inv-loop μ-loop
 array-read-store c = omega arith
 
--- src/strings.rt:68:9
 store-requires : tie.Need-store-requires Inv-loop μ-loop
 store-requires c κs = simp (length-take, length-drop) (omega arith)
 
--- src/strings.rt:69:9
 add-x : tie.Need-add-x Inv-loop μ-loop
 add-x c = omega arith
 
--- src/strings.rt:67:5
 loop-less : tie.Need-loop-less Inv-loop μ-loop
 loop-less c = omega arith
 
--- src/strings.rt:67:5
 loop-again : tie.Need-loop-again Inv-loop μ-loop
 loop-again c =
     let h = c .before .before .before .before .before .loop in
@@ -87,11 +70,9 @@ loop-again c =
           (fill-more (digits 8 8) p 0 8 (h .x) (h .dst) bytes (omega arith) (length-digits 8 8 _) (omega arith) wrote (h .inv .2)),
     )
 
--- src/strings.rt:62:1
 same-length : tie.Need-same-length Inv-loop μ-loop
 same-length c = c .before .loop .inv .1 ∙ sym (c .before .before .before .pre)
 
--- src/strings.rt:62:1
 returns : tie.Need-returns Inv-loop μ-loop
 unfolding rowString
 returns c =

@@ -1,38 +1,31 @@
+-- `hash::sponge::Sponge::absorb_part` meets its contract: the part is added into the string at the sponge's place.
+-- Assumes nothing.
 use mathlib.Core.Path.{_≡_}
 use native.Mathlib.Omega.{arith}
-use lib.ListN.{length}
-use denote.Ref.{now}
-use Rattle.hash.proofs.Steps.{part-absorbed}
 use borrow.Author.Needs.{needs}
+use denote.Ref.{now}
+use lib.ListN.{length}
+use Rattle.hash.proofs.Steps.{part-absorbed}
 use Rattle.hash.proofs.sponge.Sponge.absorb_part.Statement.{statement}
 use Rattle.hash.proofs.sponge.Sponge.absorb_part.Tie as tie
-use Rattle.hash.proofs.sponge.Sponge.absorb_part.Reads as reads
-use Rattle.hash.proofs.sponge.Sponge.absorb_part.Lts as lts
-use Rattle.hash.proofs.strings.xor_into.Reads as xor-into-reads
 
--- src/sponge.rt:69:18
 sub-xor-into : tie.Need-sub-xor-into
 sub-xor-into c = search needs
 
--- src/sponge.rt:69:18
 part-bytes-start : tie.Need-part-bytes-start
 part-bytes-start c = search needs
 
--- src/sponge.rt:69:18
 part-bytes-end : tie.Need-part-bytes-end
 part-bytes-end c =
     let long : length (c .before .before .args .self .bytes) ≡ 200 = search needs in
     omega arith
 
--- src/sponge.rt:69:9
 xor-into-requires : tie.Need-xor-into-requires
 xor-into-requires c κs = search needs
 
--- src/sponge.rt:72:17
 add-t12 : tie.Need-add-t12
 add-t12 c = search needs
 
--- src/sponge.rt:63:5
 returns : tie.Need-returns
 returns c =
     let a = c .before .before .before .before .before .args in

@@ -1,53 +1,42 @@
+-- `hash::sponge::Sponge::finish` meets its contract: the two bytes that it adds are the padding (`Finish`).
+-- Assumes nothing.
+use Prim.Native.Nat.{_≤_, _<_}
 use native.Mathlib.Omega.{arith}
-use Rattle.hash.proofs.Steps.{is-ready-as}
-use Rattle.hash.proofs.Finish.{finish-is}
 use borrow.Author.Needs.{needs}
+use Rattle.hash.proofs.Finish.{finish-is}
+use Rattle.hash.proofs.Steps.{is-ready-as}
 use Rattle.hash.proofs.sponge.Sponge.finish.Statement.{statement}
+use Rattle.hash.specs.declared.sponge.Sponge.{Sponge}
 use Rattle.hash.proofs.sponge.Sponge.finish.Tie as tie
-use Rattle.hash.proofs.sponge.Sponge.finish.Reads as reads
-use Rattle.hash.proofs.sponge.Sponge.finish.Lts as lts
-use Rattle.hash.proofs.sponge.Sponge.ready.Reads as ready-reads
 
--- src/sponge.rt:99:13
 ready-requires : tie.Need-ready-requires
 ready-requires c κs = search needs
 
--- src/sponge.rt:102:20
+-- The ready sponge's place and rate are within the string.
+pub record Within (t : Sponge) : Type 0 where
+  pub place : t .at < t .rate
+  pub rate : t .rate ≤ 200
+
+known-here : (c : tie.After-ready) → Within (c .ready .result)
+known-here c =
+    let known = is-ready-as (c .before .args .self) (c .ready .result) (c .before .pre) (c .ready .ensures) in
+    record { place = known .room; rate = omega (arith, known .rate, c .before .pre .rate-fits) }
+
 sub-last : tie.Need-sub-last
-sub-last c =
-    let known = is-ready-as (c .before .before .before .args .self) (c .before .before .ready .result) (c .before .before .before .pre) (c .before .before .ready .ensures) in
-    let ok = c .before .before .before .pre in
-    omega (arith, known .room, known .rate, ok .rate-fits)
+sub-last c = omega (arith, known-here (c .before .before))
 
--- src/sponge.rt:103:21
 array-read-bytes : tie.Need-array-read-bytes
-array-read-bytes c =
-    let known = is-ready-as (c .before .before .before .args .self) (c .before .before .ready .result) (c .before .before .before .pre) (c .before .before .ready .ensures) in
-    let ok = c .before .before .before .pre in
-    omega (arith, known .room, known .rate, ok .rate-fits)
+array-read-bytes c = omega (arith, known-here (c .before .before))
 
--- src/sponge.rt:103:9
 array-write-bytes : tie.Need-array-write-bytes
-array-write-bytes c =
-    let known = is-ready-as (c .before .before .before .args .self) (c .before .before .ready .result) (c .before .before .before .pre) (c .before .before .ready .ensures) in
-    let ok = c .before .before .before .pre in
-    omega (arith, known .room, known .rate, ok .rate-fits)
+array-write-bytes c = omega (arith, known-here (c .before .before))
 
--- src/sponge.rt:104:23
 array-read-bytes-2 : tie.Need-array-read-bytes-2
-array-read-bytes-2 c =
-    let known = is-ready-as (c .before .before .before .args .self) (c .before .before .ready .result) (c .before .before .before .pre) (c .before .before .ready .ensures) in
-    let ok = c .before .before .before .pre in
-    omega (arith, known .room, known .rate, ok .rate-fits)
+array-read-bytes-2 c = omega (arith, known-here (c .before .before))
 
--- src/sponge.rt:104:9
 array-write-bytes-2 : tie.Need-array-write-bytes-2
-array-write-bytes-2 c =
-    let known = is-ready-as (c .before .before .before .args .self) (c .before .before .ready .result) (c .before .before .before .pre) (c .before .before .ready .ensures) in
-    let ok = c .before .before .before .pre in
-    omega (arith, known .room, known .rate, ok .rate-fits)
+array-write-bytes-2 c = omega (arith, known-here (c .before .before))
 
--- src/sponge.rt:95:5
 returns : tie.Need-returns
 returns c = finish-is (c .before .before .before .args .self) (c .before .before .ready .result) (c .before .before .before .pre) (c .before .before .ready .ensures)
 

@@ -1,19 +1,16 @@
+-- `hash::sponge::Sponge::squeeze` meets its contract: after each turn the output up to `done` is what the sponge gives first, and the sponge has advanced by as much.
+-- Assumes nothing.
 use mathlib.Core.Path.{_≡_, refl, sym, ap, _∙_, subst}
 use Prim.Native.Nat.{_+_, _≤_, _-_}
 use native.Mathlib.Omega.{arith}
+use denote.Ref.{now}
 use lib.ListN.{length, take, drop, length-take, length-drop}
 use lib.Seq.{take-all}
-use denote.Ref.{now}
-use Rattle.hash.specs.Stream.{Sound, squeezed, advanced}
 use Rattle.hash.proofs.Parts.{length-patched}
-use Rattle.hash.proofs.Steps.{is-ready-as, sound-advanced, squeeze-more, squeeze-more-bytes}
+use Rattle.hash.proofs.Steps.{Ready, is-ready-as, sound-advanced, squeeze-more, squeeze-more-bytes}
 use Rattle.hash.proofs.sponge.Sponge.squeeze.Statement.{statement}
+use Rattle.hash.specs.Stream.{Sound, squeezed, advanced}
 use Rattle.hash.proofs.sponge.Sponge.squeeze.Tie as tie
-use Rattle.hash.proofs.sponge.Sponge.squeeze.Reads as reads
-use Rattle.hash.proofs.sponge.Sponge.squeeze.Lts as lts
-use Rattle.hash.proofs.sponge.Sponge.ready.Reads as ready-reads
-use Rattle.hash.proofs.sponge.Sponge.squeeze_part.Reads as squeeze-part-reads
-use Rattle.hash.proofs.sponge.least.Reads as least-reads
 
 abbrev Inv-loop : tie.InvT-loop
 Inv-loop output₀ s₀ done₀ output s done = (done ≤ length output₀) × (length output ≡ length output₀) × (s ≡ advanced s₀ done) × (take done output ≡ squeezed s₀ done)
@@ -21,74 +18,64 @@ Inv-loop output₀ s₀ done₀ output s done = (done ≤ length output₀) × (
 abbrev μ-loop : tie.MeasureT-loop
 μ-loop output₀ s₀ done₀ output s done = length output₀ - done
 
--- src/sponge.rt:135:9
+-- At the loop's head the sponge is sound, so it has a place left once it is ready.
+sound-here : (c : tie.At-loop Inv-loop μ-loop) → Sound (c .loop .s)
+sound-here c = subst Sound (sym (c .loop .inv .2)) (sound-advanced _ _ (c .before .before .pre))
+
+ready-here : (c : tie.After-ready Inv-loop μ-loop) → Ready (c .before .before .loop .s) (c .ready .result)
+ready-here c = is-ready-as _ _ (sound-here (c .before .before)) (c .ready .ensures)
+
 loop-holds : tie.Need-loop-holds Inv-loop μ-loop
 unfolding advanced squeezed
 loop-holds c = (omega arith, refl, refl, refl)
 
--- src/sponge.rt:136:17
 ready-requires : tie.Need-ready-requires Inv-loop μ-loop
 ready-requires c κs = tt
 
--- src/sponge.rt:137:27
 sub-least : tie.Need-sub-least Inv-loop μ-loop
 sub-least c =
     let h = c .before .before .before .loop in
-    let ok : Sound (h .s) = subst Sound (sym (h .inv .2)) (sound-advanced _ _ (c .before .before .before .before .before .pre)) in
-    let t = is-ready-as (h .s) (c .before .ready .result) ok (c .before .ready .ensures) in
+    let t = ready-here (c .before) in
     omega (arith, t .room)
 
--- src/sponge.rt:137:42
 sub-least-2 : tie.Need-sub-least-2 Inv-loop μ-loop
 sub-least-2 c = omega arith
 
--- src/sponge.rt:137:17
 least-requires : tie.Need-least-requires Inv-loop μ-loop
 least-requires c κs = tt
 
--- src/sponge.rt:138:54
 add-squeeze-part : tie.Need-add-squeeze-part Inv-loop μ-loop
 add-squeeze-part c = omega arith
 
--- src/sponge.rt:138:36
 sub-squeeze-part : tie.Need-sub-squeeze-part Inv-loop μ-loop
 sub-squeeze-part c = omega arith
 
--- src/sponge.rt:138:36
 part-squeeze-part-start : tie.Need-part-squeeze-part-start Inv-loop μ-loop
 part-squeeze-part-start c = omega arith
 
--- src/sponge.rt:138:36
 part-squeeze-part-end : tie.Need-part-squeeze-part-end Inv-loop μ-loop
 part-squeeze-part-end c = omega arith
 
--- src/sponge.rt:138:17
 squeeze-part-requires : tie.Need-squeeze-part-requires Inv-loop μ-loop
 squeeze-part-requires c κs =
     let h = c .before .before .before .before .before .loop in
-    let ok : Sound (h .s) = subst Sound (sym (h .inv .2)) (sound-advanced _ _ (c .before .before .before .before .before .before .before .pre)) in
-    let t = is-ready-as (h .s) (c .before .before .before .ready .result) ok (c .before .before .before .ready .ensures) in
+    let t = ready-here (c .before .before .before) in
     let room = c .before .least .ensures in
-    simp (length-take, length-drop) (omega (arith, t .room, t .rate, ok .rate-fits, room))
+    simp (length-take, length-drop) (omega (arith, t .room, t .rate, sound-here (c .before .before .before .before .before) .rate-fits, room))
 
--- src/sponge.rt:140:13
 add-done : tie.Need-add-done Inv-loop μ-loop
 add-done c = omega arith
 
--- src/sponge.rt:135:9
 loop-less : tie.Need-loop-less Inv-loop μ-loop
 loop-less c =
     let h = c .before .before .before .before .before .before .before .before .loop in
-    let ok : Sound (h .s) = subst Sound (sym (h .inv .2)) (sound-advanced _ _ (c .before .before .before .before .before .before .before .before .before .before .pre)) in
-    let t = is-ready-as (h .s) (c .before .before .before .before .before .before .ready .result) ok (c .before .before .before .before .before .before .ready .ensures) in
+    let t = ready-here (c .before .before .before .before .before .before) in
     omega (arith, t .room)
 
--- src/sponge.rt:135:9
 loop-again : tie.Need-loop-again Inv-loop μ-loop
 loop-again c =
     let h = c .before .before .before .before .before .before .before .before .loop in
-    let ok : Sound (h .s) = subst Sound (sym (h .inv .2)) (sound-advanced _ _ (c .before .before .before .before .before .before .before .before .before .before .pre)) in
-    let t = is-ready-as (h .s) (c .before .before .before .before .before .before .ready .result) ok (c .before .before .before .before .before .before .ready .ensures) in
+    let t = ready-here (c .before .before .before .before .before .before) in
     let k = c .before .before .before .before .least .result in
     let call = c .before .before .squeeze-part in
     let ys = call .last .1 .0 in
@@ -98,18 +85,16 @@ loop-again c =
     let s₀ = c .before .before .before .before .before .before .before .before .before .before .args .self in (
       omega arith,
       rw step (length-patched (h .done) k ys (h .output) long (omega arith) ∙ h .inv .1),
-      squeeze-more s₀ (h .s) _ _ (h .done) k ok (h .inv .2) (c .before .before .before .before .before .before .ready .ensures) (omega (arith, t .room))
+      squeeze-more s₀ (h .s) _ _ (h .done) k (sound-here (c .before .before .before .before .before .before .before .before)) (h .inv .2) (c .before .before .before .before .before .before .ready .ensures) (omega (arith, t .room))
           (call .ensures .sponge ∙ ap (advanced _) size),
       rw step
-          (squeeze-more-bytes s₀ (h .s) _ (h .done) k ys (h .output) ok (h .inv .2) (c .before .before .before .before .before .before .ready .ensures) long (omega arith)
+          (squeeze-more-bytes s₀ (h .s) _ (h .done) k ys (h .output) (sound-here (c .before .before .before .before .before .before .before .before)) (h .inv .2) (c .before .before .before .before .before .before .ready .ensures) long (omega arith)
           (call .ensures .bytes ∙ ap (squeezed _) size) (h .inv .3)),
     )
 
--- src/sponge.rt:129:5
 same-length : tie.Need-same-length Inv-loop μ-loop
 same-length c = c .before .loop .inv .1
 
--- src/sponge.rt:129:5
 returns : tie.Need-returns Inv-loop μ-loop
 returns c =
     let h = c .before .loop in

@@ -1,42 +1,34 @@
+-- `hash::sponge::Sponge::squeeze_part` meets its contract: the part is read from the string at the sponge's place.
+-- Assumes nothing.
 use mathlib.Core.Path.{_≡_}
 use native.Mathlib.Omega.{arith}
-use lib.ListN.{length}
-use denote.Ref.{now}
-use Rattle.hash.proofs.Steps.{part-squeezed}
 use borrow.Author.Needs.{needs}
+use denote.Ref.{now}
+use lib.ListN.{length}
+use Rattle.hash.proofs.Steps.{part-squeezed}
 use Rattle.hash.proofs.sponge.Sponge.squeeze_part.Statement.{statement}
 use Rattle.hash.proofs.sponge.Sponge.squeeze_part.Tie as tie
-use Rattle.hash.proofs.sponge.Sponge.squeeze_part.Reads as reads
-use Rattle.hash.proofs.sponge.Sponge.squeeze_part.Lts as lts
-use Rattle.hash.proofs.strings.copy.Reads as copy-reads
 
--- src/sponge.rt:119:19
 add-end : tie.Need-add-end
 add-end c = search needs
 
--- src/sponge.rt:120:20
 sub-copy : tie.Need-sub-copy
 sub-copy c = search needs
 
--- src/sponge.rt:120:20
 part-copy-start : tie.Need-part-copy-start
 part-copy-start c = search needs
 
--- src/sponge.rt:120:20
 part-copy-end : tie.Need-part-copy-end
 part-copy-end c =
     let long : length (c .before .before .before .before .args .self .bytes) ≡ 200 = search needs in
     omega arith
 
--- src/sponge.rt:120:9
 copy-requires : tie.Need-copy-requires
 copy-requires c κs = search needs
 
--- src/sponge.rt:113:5
 same-length : tie.Need-same-length
 same-length c = search needs
 
--- src/sponge.rt:113:5
 returns : tie.Need-returns
 returns c =
     let a = c .before .before .before .before .before .before .before .before .args in
