@@ -14,7 +14,9 @@ pub fn shake(rate: usize, input: &[u8], output: &mut [u8])
     requires { ⌜ (0 < rate) × (rate ≤ 200) ⌝ }
     ensures { λ _. ⌜ now (output .exit) ≡ Shake·shake rate (now (input .entry)) (length (now (output .entry))) ⌝ }
 {
-    Sponge::new(rate).absorb(input).finish().squeeze(output);
+    let taken = Sponge::new(rate).absorb(input);
+    let complete = taken.finish();
+    complete.squeeze(output);
 }
 
 // Fills output with the first bytes of SHAKE128 of input.

@@ -84,8 +84,8 @@ impl Sponge {
         while done < input.len() {
             let t = s.ready();
             let k = least(t.rate - t.at, input.len() - done);
-            let u = t.absorb_part(&input[done..done + k]);
-            s = u;
+            let filled = t.absorb_part(&input[done..done + k]);
+            s = filled;
             done += k;
         }
         s
@@ -135,8 +135,8 @@ impl Sponge {
         while done < output.len() {
             let t = s.ready();
             let k = least(t.rate - t.at, output.len() - done);
-            let u = t.squeeze_part(&mut output[done..done + k]);
-            s = u;
+            let rest = t.squeeze_part(&mut output[done..done + k]);
+            s = rest;
             done += k;
         }
         s
