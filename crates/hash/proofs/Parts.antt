@@ -10,7 +10,7 @@ use lib.Bits.{bitXor}
 use lib.ListN.{length, getD, take, drop, set, length-append, length-take, length-drop, drop-of-length-le}
 use lib.Seq.{take-append-seam, take-suc, drop-cons, sets-eq, take-all}
 use Rattle.hash.specs.Lists.{concatMap, value, digits}
-use Rattle.hash.specs.Shake.{xorInto}
+use Rattle.hash.specs.Shake.{laneAt, xorInto}
 
 -- ---- a part of a string that has come back
 
@@ -111,15 +111,11 @@ eight-read s i h =
       drop-cons s (suc (suc (suc (suc (suc (suc (suc i))))))) 0 h7,
     ))
 
--- The lane of the eight bytes from i on.
-abbrev pub lane-at : List ℕ → ℕ → ℕ
-lane-at s i = value 8 (take 8 (drop i s))
-
--- It is joined from its bytes, the highest first.
+-- A lane is joined from its eight bytes, the highest first.
 pub lane-joined : (s : List ℕ) (i : ℕ) {a b c d e f g h : ℕ} → i + 8 ≤ length s
     → a ≡ getD s (i + 7) 0 + 2 ^ 8 * 0 → b ≡ getD s (i + 6) 0 + 2 ^ 8 * a → c ≡ getD s (i + 5) 0 + 2 ^ 8 * b
     → d ≡ getD s (i + 4) 0 + 2 ^ 8 * c → e ≡ getD s (i + 3) 0 + 2 ^ 8 * d → f ≡ getD s (i + 2) 0 + 2 ^ 8 * e
-    → g ≡ getD s (i + 1) 0 + 2 ^ 8 * f → h ≡ getD s i 0 + 2 ^ 8 * g → h ≡ lane-at s i
+    → g ≡ getD s (i + 1) 0 + 2 ^ 8 * f → h ≡ getD s i 0 + 2 ^ 8 * g → h ≡ laneAt s i
 unfolding value
 lane-joined s i room ea eb ec ed ee ef eg eh =
     let under : ℕ → ℕ → ℕ = λ k v. getD s k 0 + 2 ^ 8 * v in

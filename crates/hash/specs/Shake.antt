@@ -7,9 +7,13 @@ use lib.ListN.{length, getD, take, drop, replicate}
 use Rattle.hash.specs.Lists.{tabulate, concatMap, value, digits}
 use Rattle.hash.specs.Keccak.{state, keccakF}
 
--- Section 3.1.2: the state of a string, whose lane (x, y) is the eight bytes from 8 (5 y + x) on.
+-- The lane of a string's eight bytes from i on, the low byte first.
+abbrev pub laneAt : List ℕ → ℕ → ℕ
+laneAt s i = value 8 (take 8 (drop i s))
+
+-- Section 3.1.2: the state of a string, whose lane (x, y) has the bits from 64 (5 y + x) on.
 unfoldable pub toState : List ℕ → List (List ℕ)
-toState s = state (λ x y. value 8 (take 8 (drop (8 * (5 * y + x)) s)))
+toState s = state (λ x y. laneAt s (8 * (5 * y + x)))
 
 -- Section 3.1.3: the string of a row, lane after lane.
 unfoldable pub rowString : List ℕ → List ℕ

@@ -43,6 +43,7 @@ const ROUND_CONSTANTS: [u64; 24] = [
     0x8000000080008008,
 ];
 
+// A lane turned up by n places. The second shift is by 0 and not by 64 where n is 0.
 fn rotl(v: u64, n: u32) -> u64
     requires { ⌜ n < 64 ⌝ }
     ensures { λ r. ⌜ r ≡ Keccak·rotl n v ⌝ }
@@ -50,6 +51,7 @@ fn rotl(v: u64, n: u32) -> u64
     (v << n) | (v >> ((64 - n) % 64))
 }
 
+// Two rows added modulo 2.
 fn xor_row(p: [u64; 5], q: [u64; 5]) -> [u64; 5]
     ensures { λ r. ⌜ r ≡ xorRow p q ⌝ }
 {
@@ -89,6 +91,7 @@ fn theta(a: [[u64; 5]; 5]) -> [[u64; 5]; 5]
     ]
 }
 
+// Each lane of a row turned by its offset.
 fn rotate_row(p: [u64; 5], n: [u32; 5]) -> [u64; 5]
     requires { ⌜ Offsets n ⌝ }
     ensures { λ r. ⌜ r ≡ five (λ x. Keccak·rotl (getD n x 0) (getD p x 0)) ⌝ }
@@ -132,6 +135,7 @@ fn pi(a: [[u64; 5]; 5]) -> [[u64; 5]; 5]
     ]
 }
 
+// Chi on one row.
 fn chi_row(p: [u64; 5]) -> [u64; 5]
     ensures { λ r. ⌜ r ≡ chiRow p ⌝ }
 {
@@ -170,6 +174,7 @@ fn round(a: [[u64; 5]; 5], c: u64) -> [[u64; 5]; 5]
     iota(chi(pi(rho(theta(a)))), c)
 }
 
+// The 24 rounds.
 pub fn keccak_f(a: [[u64; 5]; 5]) -> [[u64; 5]; 5]
     ensures { λ r. ⌜ r ≡ keccakF a ⌝ }
 {

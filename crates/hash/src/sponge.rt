@@ -18,6 +18,7 @@ pub struct Sponge {
     pub rate: usize,
 }
 
+// The smaller of two numbers.
 fn least(a: usize, b: usize) -> usize
     ensures { λ r. ⌜ r ≡ min a b ⌝ }
 {
@@ -49,6 +50,7 @@ impl Sponge {
         }
     }
 
+    // The sponge with a place left in its block.
     fn ready(self) -> Self
         ensures { λ r. ⌜ r ≡ Stream·ready self ⌝ }
     {

@@ -1,10 +1,11 @@
-// Strings of bytes: their states, and two loops over parts of them.
+// Strings of bytes: the state of a string and the string of a state (FIPS 202, 3.1), and the two
+// loops by which a sponge takes and gives bytes.
 ghost use mathlib.Core.Path.{_≡_};
 ghost use Prim.Native.Nat.{_+_, _*_, _^_, _≤_, _<_};
-ghost use lib.ListN.{length, take, drop};
-ghost use Rattle.hash.specs.Lists.{value, digits};
+ghost use lib.ListN.{length};
+ghost use Rattle.hash.specs.Lists.{digits};
 ghost use Rattle.hash.specs.Keccak.{five};
-ghost use Rattle.hash.specs.Shake.{toState, rowString, fromState, xorInto};
+ghost use Rattle.hash.specs.Shake.{laneAt, toState, rowString, fromState, xorInto};
 ghost use Rattle.hash.specs.Bounds.{Joined};
 
 // A byte with the digits above it.
@@ -18,7 +19,7 @@ fn join(b: u8, high: u64) -> u64
 // The lane of the eight bytes from i on.
 fn load(s: &[u8], i: usize) -> u64
     requires { ⌜ i + 8 ≤ length (now s) ⌝ }
-    ensures { λ r. ⌜ r ≡ value 8 (take 8 (drop i (now (s .entry)))) ⌝ }
+    ensures { λ r. ⌜ r ≡ laneAt (now (s .entry)) i ⌝ }
 {
     let high = join(s[i + 4], join(s[i + 5], join(s[i + 6], join(s[i + 7], 0))));
     join(s[i], join(s[i + 1], join(s[i + 2], join(s[i + 3], high))))
@@ -27,7 +28,7 @@ fn load(s: &[u8], i: usize) -> u64
 // The five lanes from byte i on.
 fn load_row(s: &[u8], i: usize) -> [u64; 5]
     requires { ⌜ i + 40 ≤ length (now s) ⌝ }
-    ensures { λ r. ⌜ r ≡ five (λ x. value 8 (take 8 (drop (i + 8 * x) (now (s .entry))))) ⌝ }
+    ensures { λ r. ⌜ r ≡ five (λ x. laneAt (now (s .entry)) (i + 8 * x)) ⌝ }
 {
     [
         load(s, i),
@@ -38,6 +39,7 @@ fn load_row(s: &[u8], i: usize) -> [u64; 5]
     ]
 }
 
+// The state of a string.
 pub fn to_state(s: &[u8]) -> [[u64; 5]; 5]
     requires { ⌜ length (now s) ≡ 200 ⌝ }
     ensures { λ r. ⌜ r ≡ toState (now (s .entry)) ⌝ }
@@ -66,6 +68,7 @@ fn store(dst: &mut [u8], v: u64)
     dst[7] = (v / 0x100000000000000 % 256) as u8;
 }
 
+// Writes the forty bytes of a row.
 fn store_row(dst: &mut [u8], p: [u64; 5])
     requires { ⌜ length (now dst) ≡ 40 ⌝ }
     ensures { λ _. ⌜ now (dst .exit) ≡ rowString p ⌝ }
@@ -77,6 +80,7 @@ fn store_row(dst: &mut [u8], p: [u64; 5])
     }
 }
 
+// The string of a state.
 pub fn from_state(a: [[u64; 5]; 5]) -> [u8; 200]
     ensures { λ r. ⌜ r ≡ fromState a ⌝ }
 {
@@ -91,7 +95,7 @@ pub fn from_state(a: [[u64; 5]; 5]) -> [u8; 200]
 
 // Adds src to the first bytes of dst, modulo 2.
 pub fn xor_into(dst: &mut [u8], src: &[u8])
-    requires { ⌜ length (now (src)) ≤ length (now (dst)) ⌝ }
+    requires { ⌜ length (now src) ≤ length (now dst) ⌝ }
     ensures { λ _. ⌜ now (dst .exit) ≡ xorInto (now (dst .entry)) (now (src .entry)) ⌝ }
 {
     let mut i = 0;
@@ -101,6 +105,7 @@ pub fn xor_into(dst: &mut [u8], src: &[u8])
     }
 }
 
+// Fills dst with src.
 pub fn copy(dst: &mut [u8], src: &[u8])
     requires { ⌜ length (now dst) ≡ length (now src) ⌝ }
     ensures { λ _. ⌜ now (dst .exit) ≡ now (src .entry) ⌝ }

@@ -4,7 +4,7 @@ use mathlib.Core.Path.{sym, ap, _∙_}
 use native.Mathlib.Nat.{add-zero}
 use borrow.Author.Needs.{needs}
 use denote.Ref.{now}
-use Rattle.hash.proofs.Parts.{lane-at}
+use Rattle.hash.specs.Shake.{laneAt}
 use Rattle.hash.proofs.Rows.{five-equal}
 use Rattle.hash.proofs.strings.load_row.Statement.{statement}
 use Rattle.hash.proofs.strings.load_row.Tie as tie
@@ -40,7 +40,7 @@ returns : tie.Need-returns
 returns c =
     let a = c .before .before .before .before .before .before .args in
     five-equal
-    (c .before .before .before .before .load .ensures ∙ ap (lane-at (now (a .s))) (sym (add-zero (a .i))))
+    (c .before .before .before .before .load .ensures ∙ ap (laneAt (now (a .s))) (sym (add-zero (a .i))))
     (c .before .before .before .load2 .ensures)
     (c .before .before .load3 .ensures)
     (c .before .load4 .ensures)
