@@ -38,6 +38,7 @@ ready-room s h = ready-other s (λ e. omega arith)
 pub record Ready (s t : Sponge) : Type 0 where
   pub room : t .at < t .rate
   pub rate : t .rate ≡ s .rate
+  pub fits : t .rate ≤ 200
   pub again : ready t ≡ t
   pub place : (t .at) % s .rate ≡ (s .at) % s .rate
 
@@ -47,6 +48,7 @@ full-ready s h e =
     record {
       room = h .some-rate;
       rate = refl;
+      fits = h .rate-fits;
       again = ready-room (permuted s) (h .some-rate);
       place = sym (add-mod-right 0 (s .rate)) ∙ ap (λ (k : ℕ). k % s .rate) (sym (e ∙ sym (omega arith)));
     }
@@ -55,7 +57,7 @@ full-ready s h e =
 pub is-ready : (s : Sponge) → Sound s → Ready s (ready s)
 is-ready s h = ⊎-elim
     (λ (e : s .at ≡ s .rate). subst (Ready s) (sym (ready-full s e)) (full-ready s h e))
-    (λ (l : s .at < s .rate). subst (Ready s) (sym (ready-room s l)) (record { room = l; rate = refl; again = ready-room s l; place = refl }))
+    (λ (l : s .at < s .rate). subst (Ready s) (sym (ready-room s l)) (record { room = l; rate = refl; fits = h .rate-fits; again = ready-room s l; place = refl }))
     (eq-or-lt-of-le (h .place))
 
 pub is-ready-as : (s t : Sponge) → Sound s → t ≡ ready s → Ready s t

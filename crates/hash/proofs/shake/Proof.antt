@@ -14,18 +14,21 @@ use Rattle.hash.proofs.shake.Tie as tie
 new-requires : tie.Need-new-requires
 new-requires c κs = search needs
 
+-- Each sponge on the way is sound.
+sound-new : (c : tie.After-new) → Sound (c .new .result)
+sound-new c = subst Sound (sym (c .new .ensures)) (sound-fresh _ (c .before .before .before .pre .0) (c .before .before .before .pre .1))
+
+sound-taken : (c : tie.After-absorb) → Sound (c .absorb .result)
+sound-taken c = subst Sound (sym (c .absorb .ensures)) (sound-absorbed _ _ (sound-new (c .before)))
+
 absorb-requires : tie.Need-absorb-requires
-absorb-requires c κs = subst Sound (sym (c .new .ensures)) (sound-fresh _ (c .before .before .before .pre .0) (c .before .before .before .pre .1))
+absorb-requires c κs = sound-new c
 
 finish-requires : tie.Need-finish-requires
-finish-requires c κs = subst Sound (sym (c .absorb .ensures)) (sound-absorbed _ _ (subst Sound (sym (c .before .new .ensures)) (sound-fresh _ (c .before .before .before .before .pre .0) (c .before .before .before .before .pre .1))))
+finish-requires c κs = sound-taken c
 
 squeeze-requires : tie.Need-squeeze-requires
-squeeze-requires c κs =
-    subst Sound (sym (c .before .finish .ensures))
-    (sound-finished _
-    (subst Sound (sym (c .before .before .absorb .ensures))
-    (sound-absorbed _ _ (subst Sound (sym (c .before .before .before .new .ensures)) (sound-fresh _ (c .before .before .before .before .before .before .pre .0) (c .before .before .before .before .before .before .pre .1))))))
+squeeze-requires c κs = subst Sound (sym (c .before .finish .ensures)) (sound-finished _ (sound-taken (c .before .before)))
 
 same-length : tie.Need-same-length
 same-length c = search needs

@@ -32,10 +32,7 @@ ready-requires : tie.Need-ready-requires Inv-loop μ-loop
 ready-requires c κs = tt
 
 sub-least : tie.Need-sub-least Inv-loop μ-loop
-sub-least c =
-    let h = c .before .before .before .loop in
-    let t = ready-here (c .before) in
-    omega (arith, t .room)
+sub-least c = omega (arith, ready-here (c .before))
 
 sub-least-2 : tie.Need-sub-least-2 Inv-loop μ-loop
 sub-least-2 c = omega arith
@@ -56,20 +53,13 @@ part-absorb-part-end : tie.Need-part-absorb-part-end Inv-loop μ-loop
 part-absorb-part-end c = omega arith
 
 absorb-part-requires : tie.Need-absorb-part-requires Inv-loop μ-loop
-absorb-part-requires c κs =
-    let h = c .before .before .before .before .before .loop in
-    let t = ready-here (c .before .before .before) in
-    let room = c .before .least .ensures in
-    simp (length-take, length-drop) (omega (arith, t .room, t .rate, sound-here (c .before .before .before .before .before) .rate-fits, room))
+absorb-part-requires c κs = simp (length-take, length-drop) (omega (arith, ready-here (c .before .before .before), c .before .least .ensures))
 
 add-done : tie.Need-add-done Inv-loop μ-loop
 add-done c = omega arith
 
 loop-less : tie.Need-loop-less Inv-loop μ-loop
-loop-less c =
-    let h = c .before .before .before .before .before .before .loop in
-    let t = ready-here (c .before .before .before .before) in
-    omega (arith, t .room)
+loop-less c = omega (arith, ready-here (c .before .before .before .before))
 
 loop-again : tie.Need-loop-again Inv-loop μ-loop
 loop-again c =

@@ -1,41 +1,33 @@
 -- `hash::sponge::Sponge::finish` meets its contract: the two bytes that it adds are the padding (`Finish`).
 -- Assumes nothing.
-use Prim.Native.Nat.{_≤_, _<_}
 use native.Mathlib.Omega.{arith}
 use borrow.Author.Needs.{needs}
 use Rattle.hash.proofs.Finish.{finish-is}
-use Rattle.hash.proofs.Steps.{is-ready-as}
+use Rattle.hash.proofs.Steps.{Ready, is-ready-as}
 use Rattle.hash.proofs.sponge.Sponge.finish.Statement.{statement}
-use Rattle.hash.specs.declared.sponge.Sponge.{Sponge}
 use Rattle.hash.proofs.sponge.Sponge.finish.Tie as tie
 
 ready-requires : tie.Need-ready-requires
 ready-requires c κs = search needs
 
--- The ready sponge's place and rate are within the string.
-pub record Within (t : Sponge) : Type 0 where
-  pub place : t .at < t .rate
-  pub rate : t .rate ≤ 200
-
-known-here : (c : tie.After-ready) → Within (c .ready .result)
-known-here c =
-    let known = is-ready-as (c .before .args .self) (c .ready .result) (c .before .pre) (c .ready .ensures) in
-    record { place = known .room; rate = omega (arith, known .rate, c .before .pre .rate-fits) }
+-- The place and the rate of the ready sponge are within the string.
+ready-here : (c : tie.After-ready) → Ready (c .before .args .self) (c .ready .result)
+ready-here c = is-ready-as _ _ (c .before .pre) (c .ready .ensures)
 
 sub-last : tie.Need-sub-last
-sub-last c = omega (arith, known-here (c .before .before))
+sub-last c = omega (arith, ready-here (c .before .before))
 
 array-read-bytes : tie.Need-array-read-bytes
-array-read-bytes c = omega (arith, known-here (c .before .before))
+array-read-bytes c = omega (arith, ready-here (c .before .before))
 
 array-write-bytes : tie.Need-array-write-bytes
-array-write-bytes c = omega (arith, known-here (c .before .before))
+array-write-bytes c = omega (arith, ready-here (c .before .before))
 
 array-read-bytes-2 : tie.Need-array-read-bytes-2
-array-read-bytes-2 c = omega (arith, known-here (c .before .before))
+array-read-bytes-2 c = omega (arith, ready-here (c .before .before))
 
 array-write-bytes-2 : tie.Need-array-write-bytes-2
-array-write-bytes-2 c = omega (arith, known-here (c .before .before))
+array-write-bytes-2 c = omega (arith, ready-here (c .before .before))
 
 returns : tie.Need-returns
 returns c = finish-is (c .before .before .before .args .self) (c .before .before .ready .result) (c .before .before .before .pre) (c .before .before .ready .ensures)
