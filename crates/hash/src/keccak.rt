@@ -3,8 +3,9 @@
 ghost use mathlib.Core.Path.{_≡_};
 ghost use Prim.Native.Nat.{_<_};
 ghost use lib.ListN.{getD};
-ghost use Rattle.hash.specs.Bounds.{Offsets};
-ghost use Rattle.hash.specs.Keccak.{five, xorRow, effect, chiRow, rotl as Keccak·rotl, theta as Keccak·theta, rho as Keccak·rho, pi as Keccak·pi, chi as Keccak·chi, iota as Keccak·iota, round as Keccak·round, keccakF};
+ghost use Rattle.hash.specs.Bounds.{Offsets, OffsetTable};
+ghost use Rattle.hash.specs.Lists.{tabulate};
+ghost use Rattle.hash.specs.Keccak.{five, xorRow, effect, chiRow, roundConstant, rotl as Keccak·rotl, theta as Keccak·theta, rho as Keccak·rho, pi as Keccak·pi, chi as Keccak·chi, iota as Keccak·iota, round as Keccak·round, keccakF};
 
 // The offsets of rho: row y, lane x.
 const OFFSETS: [[u32; 5]; 5] = [
@@ -42,6 +43,20 @@ const ROUND_CONSTANTS: [u64; 24] = [
     0x0000000080000001,
     0x8000000080008008,
 ];
+
+// The offsets are those of the walk of rho.
+fn rho_offsets() -> [[u32; 5]; 5]
+    ensures { λ r. ⌜ OffsetTable r ⌝ }
+{
+    OFFSETS
+}
+
+// The constants are those of the register of iota.
+fn iota_constants() -> [u64; 24]
+    ensures { λ r. ⌜ r ≡ tabulate 24 roundConstant ⌝ }
+{
+    ROUND_CONSTANTS
+}
 
 // A lane turned up by n places. The second shift is by 0 and not by 64 where n is 0.
 fn rotl(v: u64, n: u32) -> u64
@@ -108,7 +123,7 @@ fn rotate_row(p: [u64; 5], n: [u32; 5]) -> [u64; 5]
 fn rho(a: [[u64; 5]; 5]) -> [[u64; 5]; 5]
     ensures { λ r. ⌜ r ≡ Keccak·rho a ⌝ }
 {
-    let n = OFFSETS;
+    let n = rho_offsets();
     [
         rotate_row(a[0], n[0]),
         rotate_row(a[1], n[1]),
@@ -178,7 +193,7 @@ fn round(a: [[u64; 5]; 5], c: u64) -> [[u64; 5]; 5]
 pub fn keccak_f(a: [[u64; 5]; 5]) -> [[u64; 5]; 5]
     ensures { λ r. ⌜ r ≡ keccakF a ⌝ }
 {
-    let constants = ROUND_CONSTANTS;
+    let constants = iota_constants();
     let mut s = a;
     let mut i = 0;
     while i < 24 {

@@ -15,6 +15,9 @@ Inv-loop constants s₀ i₀ s i = (i ≤ 24) × (s ≡ rounds i s₀)
 abbrev μ-loop : tie.MeasureT-loop
 μ-loop constants s₀ i₀ s i = 24 - i
 
+iota-constants-requires : tie.Need-iota-constants-requires Inv-loop μ-loop
+iota-constants-requires c κs = tt
+
 loop-holds : tie.Need-loop-holds Inv-loop μ-loop
 unfolding rounds
 loop-holds c = (omega arith, refl)
@@ -38,14 +41,15 @@ loop-again : tie.Need-loop-again Inv-loop μ-loop
 unfolding rounds
 loop-again c =
     let h = c .before .before .loop in
-    (omega arith, rw add-one (c .round .ensures ∙ ap₂ round (constant-at (h .i) (omega arith)) (h .inv .1)))
+    let table = c .before .before .before .iota-constants in
+    (omega arith, rw add-one (c .round .ensures ∙ ap₂ round (constant-at (table .result) (h .i) (table .ensures) (omega arith)) (h .inv .1)))
 
 returns : tie.Need-returns Inv-loop μ-loop
 unfolding keccakF
 returns c =
     let h = c .before .loop in
     let all : h .i ≡ 24 = omega arith in
-    h .inv .1 ∙ ap (λ (n : ℕ). rounds n (c .before .before .args .a)) all
+    h .inv .1 ∙ ap (λ (n : ℕ). rounds n (c .before .before .before .args .a)) all
 
 pub keccak-f-spec : {M : Type 1} → statement M
 keccak-f-spec =
@@ -53,6 +57,7 @@ keccak-f-spec =
     (tie.spec
     Inv-loop
     μ-loop
+    iota-constants-requires
     loop-holds
     mul-round
     array-read-round

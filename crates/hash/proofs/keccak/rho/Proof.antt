@@ -1,4 +1,4 @@
--- `hash::keccak::rho` meets its contract: each row is turned by its row of the table, which holds the offsets of the walk.
+-- `hash::keccak::rho` meets its contract: each row is turned by its row of the table, which is that of the walk.
 -- Assumes nothing.
 use mathlib.Core.Path.{_∙_}
 use borrow.Author.Needs.{needs}
@@ -6,6 +6,9 @@ use Rattle.hash.proofs.Rows.{five-equal}
 use Rattle.hash.proofs.Tables.{rho-by-table}
 use Rattle.hash.proofs.keccak.rho.Statement.{statement}
 use Rattle.hash.proofs.keccak.rho.Tie as tie
+
+rho-offsets-requires : tie.Need-rho-offsets-requires
+rho-offsets-requires c κs = search needs
 
 array-copy-out-rotate-row : tie.Need-array-copy-out-rotate-row
 array-copy-out-rotate-row c = search needs
@@ -60,12 +63,13 @@ returns c =
     (c .before .before .before .before .before .before .rotate-row3 .ensures)
     (c .before .before .before .rotate-row4 .ensures)
     (c .rotate-row5 .ensures)
-    ∙ rho-by-table (c .before .before .before .before .before .before .before .before .before .before .before .before .before .before .before .args .t1)
+    ∙ rho-by-table (c .before .before .before .before .before .before .before .before .before .before .before .before .before .before .before .rho-offsets .result) (c .before .before .before .before .before .before .before .before .before .before .before .before .before .before .before .before .args .t1) (c .before .before .before .before .before .before .before .before .before .before .before .before .before .before .before .rho-offsets .ensures .rule)
 
 pub rho-spec : {M : Type 1} → statement M
 rho-spec =
     tie.close
     (tie.spec
+    rho-offsets-requires
     array-copy-out-rotate-row
     array-copy-out-rotate-row-2
     rotate-row-requires

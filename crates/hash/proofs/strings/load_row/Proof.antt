@@ -4,9 +4,9 @@ use mathlib.Core.Path.{sym, ap, _∙_}
 use native.Mathlib.Nat.{add-zero}
 use borrow.Author.Needs.{needs}
 use denote.Ref.{now}
-use Rattle.hash.specs.Shake.{laneAt}
 use Rattle.hash.proofs.Rows.{five-equal}
 use Rattle.hash.proofs.strings.load_row.Statement.{statement}
+use Rattle.hash.specs.Shake.{laneAt}
 use Rattle.hash.proofs.strings.load_row.Tie as tie
 
 load-requires : tie.Need-load-requires
