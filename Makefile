@@ -2,7 +2,7 @@
 # make run      prove and run the test vectors, then the examples (TEXT='...' for the one of SHAKE)
 # make test     the merge gate: every proof, every must-fail edit, every host test
 # make vectors  make the stored test vectors again
-# make bench    time the library beside portable C, and beside OpenSSL where it is installed
+# make bench    time the library beside portable C and, where it is installed, OpenSSL; measure its stack
 # make clean    remove all that was built
 
 CC = gcc
@@ -13,7 +13,7 @@ RT = rt
 LIB = target/staticlib/libscheme.a
 SOURCES := crates.txt $(shell find crates -name '*.rt' -o -name '*.antt')
 EXAMPLES = target/examples/shake
-BENCHES = target/bench/shake
+BENCHES = target/bench/shake target/bench/stack
 BENCH_PARTS = bench/timing.c bench/timing.h bench/keccak_ref.c bench/keccak_ref.h
 
 # What the benchmark needs for OpenSSL, or nothing where a program that uses it cannot be linked.
@@ -48,7 +48,7 @@ bench: $(BENCHES)
 target/bench/%: bench/%.c $(BENCH_PARTS) include/kindi.h $(LIB)
 	@mkdir -p $(@D)
 	openssl=$$($(OPENSSL_PROBE)); \
-	$(CC) $(CFLAGS) $(CPPFLAGS) $< $(filter %.c,$(BENCH_PARTS)) $(LIB) $$openssl -o $@
+	$(CC) $(CFLAGS) $(CPPFLAGS) -pthread $< $(filter %.c,$(BENCH_PARTS)) $(LIB) $$openssl -o $@
 
 clean:
 	rm -rf target
