@@ -1,5 +1,5 @@
 /*
- * kindi.h: the C interface of the KINDI sealing part.
+ * kindi.h: the C interface of the KINDI library.
  *
  * KINDI is a post-quantum encryption scheme. This header declares every call that the static library
  * exports.

@@ -13,7 +13,7 @@ use Rattle.hash.specs.Stream.{Sound, ready, absorbed, finished}
 use Rattle.hash.specs.declared.sponge.Sponge.{Sponge}
 
 -- The padding of a sponge fills what is left of its block.
-pub padding-left : (s t : Sponge) → Sound s → t ≡ ready s → padding (s .rate) (s .at) ≡ lastBytes (s .rate - 1 - t .at)
+padding-left : (s t : Sponge) → Sound s → t ≡ ready s → padding (s .rate) (s .at) ≡ lastBytes (s .rate - 1 - t .at)
 padding-left s t h is-t =
     let known = is-ready-as s t h is-t in
     let place : s .at % s .rate ≡ t .at = sym (known .place) ∙ mod-eq-of-lt (omega (arith, known .room, known .rate)) in

@@ -61,7 +61,6 @@ pub squeezed-from : (r : ℕ) (m : List ℕ) (i n : ℕ) → 0 < r → r ≤ 200
     → squeezed (advanced (finished (absorbed (fresh r) m)) i) n ≡ shakeFrom r m i n
 squeezed-from r m i n pos fits =
     let s = finished (absorbed (fresh r) m) in
-    let first = squeezed-shake r m i pos fits in
     sym (drop-at (squeezed s i) (squeezed (advanced s i) n) i (length-squeezed s i)) ∙ ap (drop i) (sym (squeezed-append s i n))
     ∙ ap (drop i) (squeezed-shake r m (i + n) pos fits ∙ shake-split r m i n)
     ∙ drop-at (shake r m i) (shakeFrom r m i n) i (length-shake r m i)

@@ -47,7 +47,7 @@ concatMap-append f (x ∷ xs) ys =
     ap (λ (l : List ℕ). f x ++ l) (concatMap-append f xs ys) ∙ sym (append-assoc (f x) (concatMap f xs) (concatMap f ys))
 
 -- One entry more gives one list more.
-pub concatMap-more : {A : Type 0} (f : A → List ℕ) (xs : List A) (i : ℕ) (d : A) → i < length xs
+concatMap-more : {A : Type 0} (f : A → List ℕ) (xs : List A) (i : ℕ) (d : A) → i < length xs
     → concatMap f (take (suc i) xs) ≡ concatMap f (take i xs) ++ f (getD xs i d)
 unfolding concatMap
 concatMap-more f xs i d h =
@@ -87,7 +87,7 @@ eight-written dst a b c d e f g h l =
     ∙ ap (λ (r : List ℕ). (a ∷ b ∷ c ∷ d ∷ e ∷ f ∷ g ∷ h ∷ []) ++ r) (drop-of-length-le dst {i = 8} (omega arith))
 
 -- Eight bytes of a string, one by one.
-pub eight-read : (s : List ℕ) (i : ℕ) → i + 8 ≤ length s
+eight-read : (s : List ℕ) (i : ℕ) → i + 8 ≤ length s
     → take 8 (drop i s) ≡ getD s i 0 ∷ getD s (i + 1) 0 ∷ getD s (i + 2) 0 ∷ getD s (i + 3) 0 ∷ getD s (i + 4) 0 ∷ getD s (i + 5) 0
     ∷ getD s (i + 6) 0 ∷ getD s (i + 7) 0 ∷ []
 eight-read s i h =

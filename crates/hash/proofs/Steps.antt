@@ -54,7 +54,7 @@ full-ready s h e =
     }
 
 -- Every sound sponge has a place left once it is ready.
-pub is-ready : (s : Sponge) → Sound s → Ready s (ready s)
+is-ready : (s : Sponge) → Sound s → Ready s (ready s)
 is-ready s h = ⊎-elim
     (λ (e : s .at ≡ s .rate). subst (Ready s) (sym (ready-full s e)) (full-ready s h e))
     (λ (l : s .at < s .rate). subst (Ready s) (sym (ready-room s l)) (record { room = l; rate = refl; fits = h .rate-fits; again = ready-room s l; place = refl }))
@@ -140,7 +140,7 @@ squeezed-ready s zero h = refl
 squeezed-ready s (suc n) h =
     ap (λ (t : Sponge). getD (t .bytes) (t .at) 0 ∷ squeezed (sponge (t .bytes) (t .at + 1) (t .rate)) n) (sym (is-ready s h .again))
 
-pub advanced-ready : (s : Sponge) (n : ℕ) → Sound s → 0 < n → advanced s n ≡ advanced (ready s) n
+advanced-ready : (s : Sponge) (n : ℕ) → Sound s → 0 < n → advanced s n ≡ advanced (ready s) n
 unfolding advanced passed
 advanced-ready s zero h l = absurd (not-suc-le-zero l)
 advanced-ready s (suc n) h l = ap (λ (t : Sponge). advanced (sponge (t .bytes) (t .at + 1) (t .rate)) n) (sym (is-ready s h .again))
@@ -211,7 +211,7 @@ unfolding passed
 passed-room b k r h = ap (λ (t : Sponge). sponge (t .bytes) (t .at + 1) (t .rate)) (ready-room (sponge b k r) h)
 
 -- Squeezing a part reads the string at the sponge's place.
-pub squeezed-part : (b : List ℕ) (k r n : ℕ) → k + n ≤ r → k + n ≤ length b → squeezed (sponge b k r) n ≡ take n (drop k b)
+squeezed-part : (b : List ℕ) (k r n : ℕ) → k + n ≤ r → k + n ≤ length b → squeezed (sponge b k r) n ≡ take n (drop k b)
 unfolding squeezed nextByte
 squeezed-part b k r zero h l = refl
 squeezed-part b k r (suc n) h l =
@@ -221,7 +221,7 @@ squeezed-part b k r (suc n) h l =
     ∙ ap (λ (i : ℕ). take n (drop i b)) (add-one k))
     ∙ sym (ap (take (suc n)) (drop-cons b k 0 (omega arith)))
 
-pub advanced-part : (b : List ℕ) (k r n : ℕ) → k + n ≤ r → advanced (sponge b k r) n ≡ sponge b (k + n) r
+advanced-part : (b : List ℕ) (k r n : ℕ) → k + n ≤ r → advanced (sponge b k r) n ≡ sponge b (k + n) r
 unfolding advanced
 advanced-part b k r zero h = ap (λ (i : ℕ). sponge b i r) (sym (add-zero k))
 advanced-part b k r (suc n) h =

@@ -66,7 +66,6 @@ fn rotl(v: u64, n: u32) -> u64
     (v << n) | (v >> ((64 - n) % 64))
 }
 
-// Two rows added modulo 2.
 fn xor_row(p: [u64; 5], q: [u64; 5]) -> [u64; 5]
     ensures { λ r. ⌜ r ≡ xorRow p q ⌝ }
 {
@@ -106,7 +105,6 @@ fn theta(a: [[u64; 5]; 5]) -> [[u64; 5]; 5]
     ]
 }
 
-// Each lane of a row turned by its offset.
 fn rotate_row(p: [u64; 5], n: [u32; 5]) -> [u64; 5]
     requires { ⌜ Offsets n ⌝ }
     ensures { λ r. ⌜ r ≡ five (λ x. Keccak·rotl (getD n x 0) (getD p x 0)) ⌝ }
@@ -150,7 +148,6 @@ fn pi(a: [[u64; 5]; 5]) -> [[u64; 5]; 5]
     ]
 }
 
-// Chi on one row.
 fn chi_row(p: [u64; 5]) -> [u64; 5]
     ensures { λ r. ⌜ r ≡ chiRow p ⌝ }
 {
@@ -189,7 +186,6 @@ fn round(a: [[u64; 5]; 5], c: u64) -> [[u64; 5]; 5]
     iota(chi(pi(rho(theta(a)))), c)
 }
 
-// The 24 rounds.
 pub fn keccak_f(a: [[u64; 5]; 5]) -> [[u64; 5]; 5]
     ensures { λ r. ⌜ r ≡ keccakF a ⌝ }
 {

@@ -18,7 +18,6 @@ pub struct Sponge {
     pub rate: usize,
 }
 
-// The smaller of two numbers.
 fn least(a: usize, b: usize) -> usize
     ensures { λ r. ⌜ r ≡ min a b ⌝ }
 {

@@ -39,7 +39,6 @@ fn load_row(s: &[u8], i: usize) -> [u64; 5]
     ]
 }
 
-// The state of a string.
 pub fn to_state(s: &[u8]) -> [[u64; 5]; 5]
     requires { ⌜ length (now s) ≡ 200 ⌝ }
     ensures { λ r. ⌜ r ≡ toState (now (s .entry)) ⌝ }
@@ -80,7 +79,6 @@ fn store_row(dst: &mut [u8], p: [u64; 5])
     }
 }
 
-// The string of a state.
 pub fn from_state(a: [[u64; 5]; 5]) -> [u8; 200]
     ensures { λ r. ⌜ r ≡ fromState a ⌝ }
 {
@@ -105,7 +103,6 @@ pub fn xor_into(dst: &mut [u8], src: &[u8])
     }
 }
 
-// Fills dst with src.
 pub fn copy(dst: &mut [u8], src: &[u8])
     requires { ⌜ length (now dst) ≡ length (now src) ⌝ }
     ensures { λ _. ⌜ now (dst .exit) ≡ now (src .entry) ⌝ }

