@@ -14,8 +14,8 @@ use Rattle.hash.specs.Shake.{laneAt, xorInto}
 
 -- ---- a part of a string that has come back
 
--- The string xs with ys in the place of its k bytes from a on, as the checker writes it.
-abbrev pub patched : ℕ → ℕ → List ℕ → List ℕ → List ℕ
+-- The list xs with ys in the place of its k entries from a on, as the checker writes it.
+abbrev pub patched : {A : Type 0} → ℕ → ℕ → List A → List A → List A
 patched a k ys xs = take a xs ++ (ys ++ drop k (drop a xs))
 
 pub length-patched : (a k : ℕ) (ys xs : List ℕ) → length ys ≡ k → a + k ≤ length xs → length (patched a k ys xs) ≡ length xs
@@ -30,10 +30,10 @@ take-patched a k ys xs e h =
     ap₂ take (sym before) whole ∙ take-append-seam (take a xs ++ ys) (drop k (drop a xs))
 
 -- The part from a to the end.
-pub patched-rest : (a : ℕ) (ys xs : List ℕ) → patched a (length xs - a) ys xs ≡ take a xs ++ ys
-patched-rest a ys xs =
+pub patched-rest : {A : Type 0} (a : ℕ) (ys xs : List A) → patched a (length xs - a) ys xs ≡ take a xs ++ ys
+patched-rest {A} a ys xs =
     let none : drop (length xs - a) (drop a xs) ≡ [] = drop-of-length-le (drop a xs) {i = length xs - a} (simp length-drop (omega arith)) in
-    ap (λ (l : List ℕ). take a xs ++ (ys ++ l)) none ∙ ap (λ (l : List ℕ). take a xs ++ l) (append-nil ys)
+    ap (λ (l : List A). take a xs ++ (ys ++ l)) none ∙ ap (λ (l : List A). take a xs ++ l) (append-nil ys)
 
 pub take-rest : (a : ℕ) (xs : List ℕ) → take (length xs - a) (drop a xs) ≡ drop a xs
 take-rest a xs = take-all (length xs - a) (drop a xs) (simp length-drop (omega arith))

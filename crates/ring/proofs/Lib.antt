@@ -1,0 +1,12 @@
+-- The laws that the proofs of `ring` share.
+pub mod Filling
+pub mod Digits
+pub mod Packing
+pub mod Whole
+pub mod Modular
+pub mod Sums
+pub mod Ring
+pub mod Residues
+pub mod Product
+pub mod Sizes
+pub mod Reversal

@@ -1,0 +1,40 @@
+-- `ring::bits::join_bits` meets its contract: the bits stand above the pending ones, and all fit.
+-- Assumes nothing.
+use mathlib.Core.Path.{_≡_, _∙_}
+use Prim.Native.Nat.{_+_, _*_, _%_, _^_, _≤_, _<_}
+use native.Mathlib.Nat.{mod-lt}
+use native.Mathlib.Omega.{arith}
+use borrow.Author.Needs.{needs}
+use lib.Pow.{pow-pos, pow-mono}
+use Rattle.ring.proofs.Packing.{join-fits}
+use Rattle.ring.proofs.bits.join_bits.Statement.{statement}
+use Rattle.ring.proofs.bits.join_bits.Tie as tie
+
+low-bits-requires : tie.Need-low-bits-requires
+low-bits-requires c κs = search needs
+
+cast-result : tie.Need-cast-result
+cast-result c = search needs
+
+shl-result : tie.Need-shl-result
+shl-result c = search needs
+
+add-result : tie.Need-add-result
+add-result c =
+    let a = c .before .args in
+    let low : c .low-bits .result < 2 ^ a .w = rw (c .low-bits .ensures) (mod-lt (a .c) (pow-pos (a .w))) in
+    let fits : a .pending + 2 ^ a .count * c .low-bits .result < 2 ^ (a .count + a .w) = join-fits (a .w) (a .count) (c .before .pre .2) low in
+    let narrow : a .count + a .w ≤ 23 = omega arith in
+    omega (arith, pow-mono narrow)
+
+returns : tie.Need-returns
+returns c =
+    let a = c .before .args in
+    let low : c .low-bits .result < 2 ^ a .w = rw (c .low-bits .ensures) (mod-lt (a .c) (pow-pos (a .w))) in
+    let fits : a .pending + 2 ^ a .count * c .low-bits .result < 2 ^ (a .count + a .w) = join-fits (a .w) (a .count) (c .before .pre .2) low in
+    let narrow : a .count + a .w ≤ 23 = omega arith in
+    let same : a .pending + c .low-bits .result * 2 ^ a .count % 4294967296 ≡ a .pending + 2 ^ a .count * c .low-bits .result = omega (arith, pow-mono narrow) in
+    (same ∙ rw (c .low-bits .ensures), rw same fits)
+
+pub join-bits-spec : {M : Type 1} → statement M
+join-bits-spec = tie.close (tie.spec low-bits-requires cast-result shl-result add-result returns)

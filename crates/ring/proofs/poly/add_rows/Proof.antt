@@ -1,0 +1,139 @@
+-- `ring::poly::add_rows` meets its contract: after k turns the first k coefficients have their four terms.
+-- Assumes nothing.
+use mathlib.Core.Path.{_≡_, refl, _∙_}
+use Prim.Native.Nat.{_-_, _≤_}
+use native.Mathlib.Omega.{arith}
+use borrow.Author.Needs.{needs}
+use denote.Ref.{now}
+use lib.ListN.{length, getD, length-set}
+use Rattle.ring.proofs.Filling.{filled, filled-none, filled-more, filled-at, filled-all}
+use Rattle.ring.specs.Terms.{addFour}
+use Rattle.ring.proofs.poly.add_rows.Statement.{statement}
+use Rattle.ring.proofs.poly.add_rows.Tie as tie
+
+abbrev Inv-loop : tie.InvT-loop
+Inv-loop acc₀ row a b c d k₀ acc k =
+    (k ≤ length acc₀) × (length acc ≡ length acc₀) × (acc ≡ filled k (addFour acc₀ row a b c d) acc₀)
+
+abbrev μ-loop : tie.MeasureT-loop
+μ-loop acc₀ row a b c d k₀ acc k = length acc₀ - k
+
+loop-holds : tie.Need-loop-holds Inv-loop μ-loop
+loop-holds c = (omega arith, refl, filled-none _ _)
+
+mul-add-term : tie.Need-mul-add-term Inv-loop μ-loop
+mul-add-term c = omega arith
+
+slice-read-add-term : tie.Need-slice-read-add-term Inv-loop μ-loop
+slice-read-add-term c = omega arith
+
+add-add-term : tie.Need-add-add-term Inv-loop μ-loop
+add-add-term c = omega arith
+
+mul-add-term-2 : tie.Need-mul-add-term-2 Inv-loop μ-loop
+mul-add-term-2 c = omega arith
+
+shared-slice-read-add-term : tie.Need-shared-slice-read-add-term Inv-loop μ-loop
+shared-slice-read-add-term c = omega arith
+
+add-term-requires : tie.Need-add-term-requires Inv-loop μ-loop
+add-term-requires c κs = search needs
+
+add-add-term-2 : tie.Need-add-add-term-2 Inv-loop μ-loop
+add-add-term-2 c = omega arith
+
+mul-add-term-3 : tie.Need-mul-add-term-3 Inv-loop μ-loop
+mul-add-term-3 c = omega arith
+
+shared-slice-read-add-term-2 : tie.Need-shared-slice-read-add-term-2 Inv-loop μ-loop
+shared-slice-read-add-term-2 c = omega arith
+
+add-term-requires-2 : tie.Need-add-term-requires-2 Inv-loop μ-loop
+add-term-requires-2 c κs = search needs
+
+add-add-term-3 : tie.Need-add-add-term-3 Inv-loop μ-loop
+add-add-term-3 c = omega arith
+
+mul-add-term-4 : tie.Need-mul-add-term-4 Inv-loop μ-loop
+mul-add-term-4 c = omega arith
+
+shared-slice-read-add-term-3 : tie.Need-shared-slice-read-add-term-3 Inv-loop μ-loop
+shared-slice-read-add-term-3 c = omega arith
+
+add-term-requires-3 : tie.Need-add-term-requires-3 Inv-loop μ-loop
+add-term-requires-3 c κs = search needs
+
+mul-add-term-5 : tie.Need-mul-add-term-5 Inv-loop μ-loop
+mul-add-term-5 c = omega arith
+
+shared-slice-read-add-term-4 : tie.Need-shared-slice-read-add-term-4 Inv-loop μ-loop
+shared-slice-read-add-term-4 c = omega arith
+
+add-term-requires-4 : tie.Need-add-term-requires-4 Inv-loop μ-loop
+add-term-requires-4 c κs = search needs
+
+mul-acc : tie.Need-mul-acc Inv-loop μ-loop
+mul-acc c = omega arith
+
+slice-write-acc : tie.Need-slice-write-acc Inv-loop μ-loop
+slice-write-acc c = omega arith
+
+add-k : tie.Need-add-k Inv-loop μ-loop
+add-k c = omega arith
+
+loop-less : tie.Need-loop-less Inv-loop μ-loop
+loop-less c = omega arith
+
+loop-again : tie.Need-loop-again Inv-loop μ-loop
+unfolding addFour
+loop-again c =
+    let h = c .before .before .before .before .before .before .before .before .before .before .loop in
+    let a = c .before .before .before .before .before .before .before .before .before .before .before .before .before .args in
+    let f = addFour (now (a .acc)) (now (a .row)) (a .a) (a .b) (a .c) (a .d) in
+    let here : getD (h .acc) (h .k) 0 ≡ getD (now (a .acc)) (h .k) 0 = filled-at (h .k) (h .k) f (now (a .acc)) 0 (omega arith) (h .inv .2) in (
+      omega arith,
+      simp length-set (h .inv .1),
+      filled-more (h .k) f (now (a .acc)) 0 (omega arith) (h .inv .2)
+          (c .add-term4 .ensures ∙ rw (c .before .before .add-term3 .ensures, c .before .before .before .before .add-term2 .ensures, c .before .before .before .before .before .before .add-term .ensures, here)),
+    )
+
+same-length : tie.Need-same-length Inv-loop μ-loop
+same-length c = c .before .loop .inv .1
+
+returns : tie.Need-returns Inv-loop μ-loop
+returns c =
+    let h = c .before .loop in
+    let a = c .before .before .before .before .args in
+    filled-all (h .k) (length (now (a .acc))) (addFour (now (a .acc)) (now (a .row)) (a .a) (a .b) (a .c) (a .d)) (now (a .acc)) refl (omega arith) (omega arith) (h .inv .2)
+
+pub add-rows-spec : {M : Type 1} → statement M
+add-rows-spec =
+    tie.close
+    (tie.spec
+    Inv-loop
+    μ-loop
+    loop-holds
+    mul-add-term
+    slice-read-add-term
+    add-add-term
+    mul-add-term-2
+    shared-slice-read-add-term
+    add-term-requires
+    add-add-term-2
+    mul-add-term-3
+    shared-slice-read-add-term-2
+    add-term-requires-2
+    add-add-term-3
+    mul-add-term-4
+    shared-slice-read-add-term-3
+    add-term-requires-3
+    mul-add-term-5
+    shared-slice-read-add-term-4
+    add-term-requires-4
+    mul-acc
+    slice-write-acc
+    add-k
+    loop-less
+    loop-again
+    same-length
+    returns)

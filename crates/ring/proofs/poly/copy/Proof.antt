@@ -1,0 +1,74 @@
+-- `ring::poly::copy` meets its contract: after k turns the first k coefficients are copied.
+-- Assumes nothing.
+use mathlib.Core.Path.{_≡_, refl, _∙_}
+use Prim.Native.Nat.{_-_, _≤_}
+use native.Mathlib.Omega.{arith}
+use denote.Ref.{now}
+use lib.ListN.{length, getD, length-set}
+use Rattle.ring.proofs.Filling.{filled, filled-none, filled-more, filled-all, tabulate-entries}
+use Rattle.ring.proofs.poly.copy.Statement.{statement}
+use Rattle.ring.proofs.poly.copy.Tie as tie
+
+abbrev Inv-loop : tie.InvT-loop
+Inv-loop src dst₀ k₀ dst k =
+    (k ≤ length dst₀) × (length dst ≡ length dst₀) × (dst ≡ filled k (λ j. getD src j 0) dst₀)
+
+abbrev μ-loop : tie.MeasureT-loop
+μ-loop src dst₀ k₀ dst k = length dst₀ - k
+
+loop-holds : tie.Need-loop-holds Inv-loop μ-loop
+loop-holds c = (omega arith, refl, filled-none _ _)
+
+mul-dst : tie.Need-mul-dst Inv-loop μ-loop
+mul-dst c = omega arith
+
+shared-slice-read-dst : tie.Need-shared-slice-read-dst Inv-loop μ-loop
+shared-slice-read-dst c = omega arith
+
+mul-dst-2 : tie.Need-mul-dst-2 Inv-loop μ-loop
+mul-dst-2 c = omega arith
+
+slice-write-dst : tie.Need-slice-write-dst Inv-loop μ-loop
+slice-write-dst c = omega arith
+
+add-k : tie.Need-add-k Inv-loop μ-loop
+add-k c = omega arith
+
+loop-less : tie.Need-loop-less Inv-loop μ-loop
+loop-less c = omega arith
+
+loop-again : tie.Need-loop-again Inv-loop μ-loop
+loop-again c =
+    let h = c .before .before .loop in
+    let a = c .before .before .before .args in (
+      omega arith,
+      simp length-set (h .inv .1),
+      filled-more (h .k) (λ j. getD (now (a .src)) j 0) (now (a .dst)) 0 (omega arith) (h .inv .2) refl,
+    )
+
+same-length : tie.Need-same-length Inv-loop μ-loop
+same-length c = c .before .loop .inv .1
+
+returns : tie.Need-returns Inv-loop μ-loop
+returns c =
+    let h = c .before .loop in
+    let a = c .before .before .args in
+    filled-all (h .k) (length (now (a .src))) (λ j. getD (now (a .src)) j 0) (now (a .dst)) (omega arith) (omega arith) (omega arith) (h .inv .2)
+    ∙ tabulate-entries (now (a .src)) 0
+
+pub copy-spec : {M : Type 1} → statement M
+copy-spec =
+    tie.close
+    (tie.spec
+    Inv-loop
+    μ-loop
+    loop-holds
+    mul-dst
+    shared-slice-read-dst
+    mul-dst-2
+    slice-write-dst
+    add-k
+    loop-less
+    loop-again
+    same-length
+    returns)
