@@ -11,10 +11,16 @@ CPPFLAGS = -Iinclude
 RT = rt
 
 LIB = target/staticlib/libscheme.a
+# The ring's calls for the tests and the benchmark; no part of the library.
+RING = target/staticlib/libring_calls.a
 SOURCES := crates.txt $(shell find crates -name '*.rt' -o -name '*.antt')
 EXAMPLES = target/examples/shake
-BENCHES = target/bench/shake target/bench/stack
-BENCH_PARTS = bench/timing.c bench/timing.h bench/keccak_ref.c bench/keccak_ref.h
+BENCHES = target/bench/shake target/bench/ring target/bench/stack
+BENCH_PARTS = bench/timing.c bench/timing.h bench/keccak_ref.c bench/keccak_ref.h \
+	bench/ring_ref.c bench/ring_ref.h bench/ring_calls.h
+
+# A short loop that crosses a cache line takes up to twice its time; so the C is not timed by chance.
+BENCH_FLAGS = -falign-loops=64
 
 # What the benchmark needs for OpenSSL, or nothing where a program that uses it cannot be linked.
 OPENSSL_PROBE = printf '\#include <openssl/evp.h>\nint main(void) { return !EVP_shake128(); }\n' \
@@ -25,11 +31,11 @@ OPENSSL_PROBE = printf '\#include <openssl/evp.h>\nint main(void) { return !EVP_
 
 lib: $(LIB)
 
-$(LIB): $(SOURCES)
-	$(RT) staticlib scheme
+target/staticlib/lib%.a: $(SOURCES)
+	$(RT) staticlib $*
 
 run: $(EXAMPLES)
-	$(RT) check shake_vectors
+	$(RT) check shake_vectors ring_vectors
 	target/examples/shake $${TEXT:+"$$TEXT"}
 
 target/examples/%: examples/%.c include/kindi.h $(LIB)
@@ -41,14 +47,15 @@ test:
 
 vectors:
 	tests/vectors/shake_cases.py
+	tests/vectors/ring_cases.py
 
 bench: $(BENCHES)
 	for program in $(BENCHES); do $$program || exit 1; done
 
-target/bench/%: bench/%.c $(BENCH_PARTS) include/kindi.h $(LIB)
+target/bench/%: bench/%.c $(BENCH_PARTS) include/kindi.h $(LIB) $(RING)
 	@mkdir -p $(@D)
 	openssl=$$($(OPENSSL_PROBE)); \
-	$(CC) $(CFLAGS) $(CPPFLAGS) -pthread $< $(filter %.c,$(BENCH_PARTS)) $(LIB) $$openssl -o $@
+	$(CC) $(CFLAGS) $(BENCH_FLAGS) $(CPPFLAGS) -pthread $< $(filter %.c,$(BENCH_PARTS)) $(LIB) $(RING) $$openssl -o $@
 
 clean:
 	rm -rf target

@@ -29,7 +29,8 @@ def test():
     check(sources, "there is no program to run")
     for source in sources:
         # valgrind's macros are GNU C.
-        program = build_program(source, f"memcheck_{source.stem}", ["-Wno-pedantic", "-std=gnu99"])
+        program = build_program(source, f"memcheck_{source.stem}", ["-Wno-pedantic", "-std=gnu99"],
+                                ["scheme", "ring_calls"])
         done = memcheck(program)
         check(done.returncode == 0, f"{source.name}: exit {done.returncode}\n{done.stdout}{done.stderr}")
         told = memcheck(program, "branch")

@@ -6,10 +6,8 @@ usage: shake_random.py [SEED [CALLS]]
 
 import ctypes
 import hashlib
-import random
-import sys
 
-from support import Guarded, check, load_library, main
+from support import Guarded, check, load_library, main, repeat
 
 SEED = 20150804
 CALLS = 20000
@@ -55,19 +53,11 @@ def one_call(rng, library):
 
 
 def test():
-    seed = int(sys.argv[1]) if len(sys.argv) > 1 else SEED
-    calls = int(sys.argv[2]) if len(sys.argv) > 2 else CALLS
-    rng = random.Random(seed)
     library = load_library()
     for name, _, _ in KINDS:
         getattr(library, name).restype = None
-    for number in range(calls):
-        try:
-            one_call(rng, library)
-        except Exception as error:
-            error.args = (f"seed {seed}, call {number}: {error}",)
-            raise
-    return f"{calls} calls of SHAKE128 and SHAKE256 agree with hashlib (seed {seed})"
+    seed, answers = repeat(one_call, library, SEED, CALLS)
+    return f"{len(answers)} calls of SHAKE128 and SHAKE256 agree with hashlib (seed {seed})"
 
 
 main(test)

@@ -1,6 +1,7 @@
 """What the host tests share: paths, running a compiler, the shared object, and guarded buffers."""
 
 import ctypes
+import random
 import subprocess
 import sys
 from pathlib import Path
@@ -8,7 +9,8 @@ from pathlib import Path
 ROOT = Path(__file__).resolve().parents[2]
 INCLUDE = ROOT / "include"
 HEADER = INCLUDE / "kindi.h"
-ARCHIVE = ROOT / "target" / "staticlib" / "libscheme.a"
+# Where ring_calls.h is, the header of the ring's calls for tests.
+BENCH = ROOT / "bench"
 BUILD = ROOT / "target" / "host"
 
 WARNINGS = ["-Wall", "-Wextra", "-Wpedantic", "-Werror"]
@@ -36,27 +38,30 @@ def run(command):
     return done.stdout
 
 
-def archive():
-    check(ARCHIVE.is_file(), f"{ARCHIVE.relative_to(ROOT)} is missing: run rt staticlib scheme")
-    return ARCHIVE
+def archive(crate="scheme"):
+    """The static library of a crate; the one of scheme is what firmware links."""
+    path = ROOT / "target" / "staticlib" / f"lib{crate}.a"
+    check(path.is_file(), f"{path.relative_to(ROOT)} is missing: run rt staticlib {crate}")
+    return path
 
 
-def build_program(source, name, words=()):
-    """Compiles one C99 file with every warning an error and links it with the archive."""
+def build_program(source, name, words=(), crates=("scheme",)):
+    """Compiles one C99 file with every warning an error and links it with the archives of the crates."""
     BUILD.mkdir(parents=True, exist_ok=True)
     out = BUILD / name
-    run(["gcc", "-std=c99", "-O1", *WARNINGS, "-I", INCLUDE, *words, source, archive(), "-o", out])
+    run(["gcc", "-std=c99", "-O1", *WARNINGS, "-I", INCLUDE, "-I", BENCH, *words, source,
+         *map(archive, crates), "-o", out])
     return out
 
 
-def load_library():
+def load_library(crate="scheme"):
     """Links the whole archive as a shared object and loads it. Text relocations and names that the C
     library does not have are refused, so an archive that is not position independent fails here."""
     BUILD.mkdir(parents=True, exist_ok=True)
-    out = BUILD / "libkindi.so"
+    out = BUILD / f"lib{crate}.so"
     out.unlink(missing_ok=True)
     run(["gcc", "-shared", "-o", out, "-Wl,-z,text", "-Wl,-z,defs", "-Wl,--fatal-warnings",
-         "-Wl,--whole-archive", archive(), "-Wl,--no-whole-archive"])
+         "-Wl,--whole-archive", archive(crate), "-Wl,--no-whole-archive"])
     return ctypes.CDLL(str(out))
 
 
@@ -100,6 +105,21 @@ class Guarded:
         check(whole[:self.before] == self.head, f"a byte before a buffer of {self.length} bytes was written")
         check(whole[end:] == self.tail, f"a byte after a buffer of {self.length} bytes was written")
         return whole[self.before:end]
+
+
+def repeat(one_call, library, seed, calls):
+    """Makes random calls, as many and from the seed that the command line names, else those given: the
+    seed, and what each call returned. A failure says which call it was."""
+    given = [int(word) for word in sys.argv[1:3]]
+    seed, calls = given + [seed, calls][len(given):]
+    rng, answers = random.Random(seed), []
+    for number in range(calls):
+        try:
+            answers.append(one_call(rng, library))
+        except Exception as error:
+            error.args = (f"seed {seed}, call {number}: {error}",)
+            raise
+    return seed, answers
 
 
 def main(test):

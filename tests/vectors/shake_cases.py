@@ -13,9 +13,8 @@ each case: the output in lower-case hexadecimal.
 import hashlib
 import struct
 import sys
-from pathlib import Path
 
-FOLDER = Path(__file__).resolve().parents[2] / "crates" / "shake_vectors"
+from stored import content, main
 
 # What a length of two bytes and the program's buffer for a line have room for.
 MOST_INPUT = 65535
@@ -32,16 +31,6 @@ NIST = [
     (SHAKE256, b"", "46b9dd2b0ba88d13233b3feb743eeb243fcd52ea62b81b82b50c27646ed5762f"),
     (SHAKE256, b"\xa3" * 200, "cd8a920ed141aa0407a22d59288652e9d9f1a7ee0c1e7c1ca699424da84a904d"),
 ]
-
-
-def content(length, seed):
-    """Bytes with no short period: the high byte of a linear congruential sequence."""
-    state = (seed * 2654435761 + length) & 0xFFFFFFFF
-    out = bytearray()
-    for _ in range(length):
-        state = (state * 1664525 + 1013904223) & 0xFFFFFFFF
-        out.append(state >> 24)
-    return bytes(out)
 
 
 def cases():
@@ -86,37 +75,7 @@ def make():
             sys.exit("shake_cases.py: a case is larger than the program's buffers")
         stdin += struct.pack("<BHH", kind, len(message), size) + message
         stdout += HASHES[kind](message).hexdigest(size).encode() + b"\n"
-    return {"stdin": bytes(stdin), "stdout": bytes(stdout)}
+    return bytes(stdin), bytes(stdout)
 
 
-def difference(path, made):
-    """What is wrong with a stored file, or None."""
-    name = f"crates/{path.parent.name}/{path.name}"
-    if not path.is_file():
-        return f"{name} is missing"
-    stored = path.read_bytes()
-    if stored == made:
-        return None
-    shorter = min(len(stored), len(made))
-    at = next((i for i in range(shorter) if stored[i] != made[i]), shorter)
-    line = f", line {made[:at].count(10) + 1}" if path.name == "stdout" else ""
-    return f"{name} has {len(stored)} bytes and should have {len(made)}; they first differ at byte {at}{line}"
-
-
-def main():
-    if sys.argv[1:] not in ([], ["--check"]):
-        sys.exit(__doc__)
-    files = make()
-    if sys.argv[1:]:
-        wrong = [said for name, made in files.items() if (said := difference(FOLDER / name, made))]
-        if wrong:
-            sys.exit("\n".join(f"shake_cases.py: {said}" for said in wrong) + "\nrun make vectors")
-    else:
-        FOLDER.mkdir(parents=True, exist_ok=True)
-        for name, made in files.items():
-            (FOLDER / name).write_bytes(made)
-    count = files["stdout"].count(b"\n")
-    print(f"{count} cases, {len(files['stdin'])} bytes of stdin, {len(files['stdout'])} bytes of stdout")
-
-
-main()
+main("shake_vectors", make, __doc__)

@@ -1,18 +1,18 @@
 -- Laws of numbers and their digits in base 2^w, and from them those of bit strings: packing and unpacking are inverse to each
 -- other, and bit by bit they read as 01 says. Assumes nothing.
-use mathlib.Core.Path.{_≡_, refl, sym, ap, ap₂, _∙_, subst}
+use mathlib.Core.Path.{_≡_, refl, sym, ap, ap₂, _∙_}
 use mathlib.Core.List.{List, [], _∷_, _++_}
 use Prim.Native.Nat.{ℕ, zero, suc, _+_, _-_, _*_, _/_, _%_, _^_, _≤_, _<_, zero-le, suc-le-suc}
-use native.Mathlib.Nat.{not-suc-le-zero, le-of-suc-le-suc, mul-zero, mul-suc, mul-comm, mul-assoc, div-div-eq-div-mul, mod-lt, mod-eq-of-lt, lt-of-lt-of-le, le-refl, div-one, mod-mod, mod-one, pow-zero, zero-div, zero-mod, mul-le-mul-left, div-add-mod', zero-add, suc-add, mul-add, add-zero, pow-suc, mul-mod-left, mul-div-cancel}
+use native.Mathlib.Nat.{not-suc-le-zero, le-of-suc-le-suc, mul-zero, mul-suc, div-div-eq-div-mul, mod-eq-of-lt, lt-of-lt-of-le, le-refl, div-one, mod-one, pow-zero, zero-div, zero-mod, mul-le-mul-left, zero-add, suc-add, mul-add, add-zero, pow-suc, mul-mod-left, mul-div-cancel}
 use native.Mathlib.Omega.{arith}
 use lib.Count.{trailingZeros}
 use lib.ListN.{length, getD, take, drop, length-append}
-use lib.Seq.{take-at}
+use lib.Seq.{take-at, drop-at}
 use lib.Pow.{pow-add, pow-pos, pow-mono, high, low, mod-pow-add, mod-mod-pow, field, shr-shr}
 use Rattle.hash.specs.Lists.{tabulate, value, digits}
 use Rattle.hash.proofs.Entries.{tabulate-at}
 use Rattle.hash.proofs.Parts.{length-digits}
-use Rattle.ring.specs.Bits.{bytesFor, pack, unpack, lowBits, Below, bit}
+use Rattle.ring.specs.Bits.{bytesFor, pack, unpack, Below, bit}
 
 -- ---- numbers and their digits
 
@@ -194,6 +194,16 @@ unpack-add w m n a bs h e =
     digits-add w m n (value 8 bs)
     ∙ ap (λ (x : ℕ). digits w m (value 8 bs) ++ digits w n x) (ap (λ (k : ℕ). value 8 bs / 2 ^ k) e ∙ sym (value-drop 8 bs a h))
 
+-- So n of them from place m on are unpacked from byte a on.
+pub unpack-part : (w m n r a : ℕ) (bs : List ℕ) → Below 256 bs → w * m ≡ 8 * a
+    → take n (drop m (unpack w (m + (n + r)) bs)) ≡ unpack w n (drop a bs)
+unfolding unpack
+unpack-part w m n r a bs h e =
+    ap (λ (l : List ℕ). take n (drop m l)) (unpack-add w m (n + r) a bs h e)
+    ∙ ap (take n) (drop-at (digits w m (value 8 bs)) (digits w (n + r) (value 8 (drop a bs))) m (length-digits w m (value 8 bs)))
+    ∙ take-digits w n (n + r) (value 8 (drop a bs)) (omega arith)
+
+-- The bytes of a list are those of its first part and those of its second, where the first fills whole bytes.
 pub pack-append : (w a : ℕ) (xs ys : List ℕ) → Below (2 ^ w) xs → w * length xs ≡ 8 * a → pack w (xs ++ ys) ≡ pack w xs ++ pack w ys
 unfolding pack
 pack-append w a xs ys h e =
@@ -261,9 +271,6 @@ width-of-power (suc k) (suc i) h =
     let half : 2 ^ suc i / 2 ≡ 2 ^ i = rw pow-suc (mul-div-cancel (2 ^ i) (suc-le-suc zero-le)) in
     rw (even, half) (ap suc (width-of-power k i (le-of-suc-le-suc h)))
 
--- ---- 01's example
-
--- 14-bit 1, 2 pack as 01 80 00 and the low half of a fourth byte, 0.
-pub example-pack : pack 14 (1 ∷ 2 ∷ []) ≡ 0x01 ∷ 0x80 ∷ 0x00 ∷ 0x00 ∷ []
-unfolding pack value digits
-example-pack = refl
+-- A power of two is the number of values of its width.
+pub power-of-width : (k i : ℕ) → i < k → 2 ^ trailingZeros k (2 ^ i) ≡ 2 ^ i
+power-of-width k i h = ap (λ (w : ℕ). 2 ^ w) (width-of-power k i h)

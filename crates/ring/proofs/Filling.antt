@@ -4,7 +4,7 @@ use mathlib.Core.List.{List, [], _∷_, _++_, map, append-assoc, append-nil}
 use Prim.Native.Nat.{ℕ, zero, suc, _+_, _-_, _≤_, _<_, zero-le, suc-le-suc}
 use native.Mathlib.Numerals.{add-one}
 use native.Mathlib.Omega.{arith}
-use lib.ListN.{length, getD, take, drop, set, length-append, length-drop, drop-of-length-le}
+use lib.ListN.{length, getD, drop, set, drop-of-length-le}
 use lib.Seq.{drop-cons, getD-append-add, getD-drop, set-at}
 use Rattle.hash.specs.Lists.{tabulate}
 use Rattle.hash.proofs.Entries.{length-tabulate, tabulate-add}
@@ -51,9 +51,6 @@ filled-all {A} i n f xs {ys} l h k e =
     e ∙ ap (λ (r : List A). tabulate i f ++ r) (drop-of-length-le xs {i = i} (omega arith)) ∙ append-nil (tabulate i f)
     ∙ ap (λ (m : ℕ). tabulate m f) same
 
-pub length-filled : {A : Type 0} (i : ℕ) (f : ℕ → A) (xs : List A) {ys : List A} → i ≤ length xs → ys ≡ filled i f xs → length ys ≡ length xs
-length-filled i f xs h e = ap length e ∙ simp (length-append, length-tabulate, length-drop) (omega arith)
-
 -- Two lists that agree at each place.
 pub tabulate-ext : {A : Type 0} (n : ℕ) (f g : ℕ → A) → ((i : ℕ) → i < n → f i ≡ g i) → tabulate n f ≡ tabulate n g
 unfolding tabulate
@@ -68,10 +65,11 @@ unfolding tabulate
 tabulate-entries [] d = refl
 tabulate-entries {A} (x ∷ xs) d = ap (λ (l : List A). x ∷ l) (tabulate-entries xs d)
 
-pub map-tabulate : {A : Type 0} (f : A → A) (n : ℕ) (g : ℕ → A) → map f (tabulate n g) ≡ tabulate n (λ i. f (g i))
+-- A function of the entries of a table.
+pub map-tabulate : {A B : Type 0} (f : A → B) (n : ℕ) (g : ℕ → A) → map f (tabulate n g) ≡ tabulate n (λ i. f (g i))
 unfolding tabulate
 map-tabulate f zero g = refl
-map-tabulate {A} f (suc n) g = ap (λ (l : List A). f (g 0) ∷ l) (map-tabulate f n (λ i. g (suc i)))
+map-tabulate {B = B} f (suc n) g = ap (λ (l : List B). f (g 0) ∷ l) (map-tabulate f n (λ i. g (suc i)))
 
 -- A turn more leaves fewer.
 pub turn-less : {i n : ℕ} → i < n → n - (i + 1) < n - i

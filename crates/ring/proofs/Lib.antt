@@ -10,3 +10,4 @@ pub mod Residues
 pub mod Product
 pub mod Sizes
 pub mod Reversal
+pub mod Examples

@@ -1,8 +1,8 @@
 -- What holds of a string while `bits::pack` fills it, and what `bits::field` reads. Assumes nothing.
 use mathlib.Core.Path.{_≡_, refl, sym, ap, ap₂, _∙_}
-use mathlib.Core.List.{List, [], _∷_, _++_, map}
-use Prim.Native.Nat.{ℕ, zero, suc, _+_, _-_, _*_, _/_, _%_, _^_, _≤_, _<_, min}
-use native.Mathlib.Nat.{mul-le-mul-left, mul-suc, mul-zero, mul-assoc, pow-zero, lt-of-lt-of-le, mod-lt, mod-eq-of-lt, zero-div, le-min, add-mul-div-left, add-mul-mod-self-left}
+use mathlib.Core.List.{List, [], _∷_, _++_}
+use Prim.Native.Nat.{ℕ, suc, _+_, _-_, _*_, _/_, _%_, _^_, _≤_, _<_, min}
+use native.Mathlib.Nat.{mul-le-mul-left, mul-suc, mul-zero, mul-assoc, mod-lt, add-mul-div-left, add-mul-mod-self-left}
 use native.Mathlib.Numerals.{add-one}
 use native.Mathlib.Omega.{arith}
 use lib.Bits.{bitAnd, and-mask}

@@ -1,31 +1,17 @@
 -- Laws of the lists of residues of polynomials. Assumes nothing.
-use mathlib.Core.Path.{_≡_, refl, ap, ap₂, _∙_}
-use mathlib.Core.List.{List, _∷_, map}
-use Prim.Native.Nat.{ℕ, zero, suc, _^_, _%_, _≤_, _<_, suc-le-suc, zero-le}
+use mathlib.Core.Path.{_≡_, ap, _∙_}
+use mathlib.Core.List.{List}
+use Prim.Native.Nat.{ℕ, _^_, _%_, _≤_, _<_, suc-le-suc, zero-le}
 use lib.ListN.{length, getD, List·getD-eq-default}
 use lib.Seq.{ext-getD}
 use lib.IntN.{pos}
-use Rattle.hash.specs.Lists.{tabulate}
 use Rattle.hash.proofs.Entries.{tabulate-at, length-tabulate}
 use Rattle.ring.specs.Integers.{Cong, residue}
 use Rattle.ring.specs.Bits.{Below, lowBits}
 use Rattle.ring.specs.Poly.{Poly, mul, plus, ofNats, residues}
-use Rattle.ring.proofs.Modular.{cong-add, cong-of-eq, cong-trans, residue-small, residue-cong}
-use Rattle.ring.proofs.Modular.{residue-below, residue-eq, residue-power}
+use Rattle.ring.proofs.Filling.{tabulate-ext, map-tabulate}
+use Rattle.ring.proofs.Modular.{cong-add, cong-of-eq, cong-trans, residue-small, residue-cong, residue-below, residue-eq, residue-power}
 use Rattle.ring.proofs.Ring.{sides, mul-cong}
-
--- Equal entries make equal tabulated lists.
-pub tabulate-ext : {A : Type 0} (n : ℕ) (f g : ℕ → A) → ((i : ℕ) → i < n → f i ≡ g i) → tabulate n f ≡ tabulate n g
-unfolding tabulate
-tabulate-ext zero f g e = refl
-tabulate-ext (suc n) f g e =
-    ap₂ _∷_ (e zero (suc-le-suc zero-le)) (tabulate-ext n (λ i. f (suc i)) (λ i. g (suc i)) (λ i h. e (suc i) (suc-le-suc h)))
-
--- A function of the entries of a tabulated list.
-pub map-tabulate : {A B : Type 0} (g : A → B) (n : ℕ) (f : ℕ → A) → map g (tabulate n f) ≡ tabulate n (λ i. g (f i))
-unfolding tabulate
-map-tabulate g zero f = refl
-map-tabulate g (suc n) f = ap (λ l. g (f zero) ∷ l) (map-tabulate g n (λ i. f (suc i)))
 
 -- Entry k is the residue of coefficient k.
 pub residues-at : (q n : ℕ) (f : Poly) {k : ℕ} → k < n → getD (residues q n f) k 0 ≡ residue q (f k)
@@ -82,3 +68,10 @@ product-residues {q} p n f g h =
     residues-cong p n (plus f' (mul n g' h')) (plus f (mul n g h))
     (λ k l. cong-add (ofNats-residues p n f l)
     (mul-cong n g' g h' h (λ i m. ofNats-residues p n g m) (λ i m. ofNats-residues p n h m) l))
+
+-- What `poly::multiply_add` and then `bits::reduce` leave, of the residues of three polynomials modulo 2^16: those of the first
+-- with the product of the others, modulo 2^w.
+pub product-modulo : (w n : ℕ) (f g h : Poly) → w ≤ 16
+    → lowBits w (residues 65536 n (plus (ofNats (residues 65536 n f)) (mul n (ofNats (residues 65536 n g)) (ofNats (residues 65536 n h)))))
+    ≡ residues (2 ^ w) n (plus f (mul n g h))
+product-modulo w n f g h l = ap (lowBits w) (product-residues {q = 65536} (suc-le-suc zero-le) n f g h) ∙ residues-low w 16 n (plus f (mul n g h)) l

@@ -1,18 +1,15 @@
 -- Laws of the product that `signed::multiply_add` adds up coefficient by coefficient, over the integers. Assumes nothing.
-use mathlib.Core.Path.{_≡_, refl, sym, ap, _∙_}
-use mathlib.Core.List.{List, _++_, append-assoc}
-use Prim.Native.Nat.{ℕ, zero, suc, _+_, _-_, _*_, _^_, _≤_, _<_}
+use mathlib.Core.Path.{_≡_, sym, ap, _∙_}
+use mathlib.Core.List.{List, _++_}
+use Prim.Native.Nat.{ℕ, _+_, _-_, _*_, _^_, _≤_, _<_}
 use native.Mathlib.Nat.{min-eq-left}
 use native.Mathlib.Omega.{arith}
 use lib.IntN.{ℤ, pos, negℤ, natAbs, _+ℤ_, _*ℤ_}
 use lib.ListN.{length, getD, take, drop, length-append, length-take, length-drop, List·getD-append}
 use lib.Seq.{getD-append-add, getD-take, getD-drop}
-use mir.Syntax.{w32}
-use mir.Val.{SFits}
-use Rattle.hash.specs.Lists.{tabulate}
 use Rattle.hash.proofs.Entries.{tabulate-at, length-tabulate}
 use Rattle.ring.proofs.Ring.{shifted-low, shifted-high, sides, natAbs-mul-poly}
-use Rattle.ring.proofs.Sizes.{fits-abs, le-largest, largest-le}
+use Rattle.ring.proofs.Sizes.{le-largest, largest-le}
 use Rattle.ring.proofs.Sums.{sum-ext}
 use Rattle.ring.proofs.Whole.{natAbs-add, natAbs-neg}
 use Rattle.ring.specs.Integers.{largest}

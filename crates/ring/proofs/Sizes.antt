@@ -3,19 +3,19 @@
 use mathlib.Core.Path.{_≡_, refl, sym, ap, ap₂, _∙_}
 use mathlib.Core.Bool.{Bool, true, false, _&&_}
 use mathlib.Core.List.{List, [], _∷_, _++_}
-use Prim.Native.Nat.{ℕ, zero, suc, _+_, _-_, _*_, _^_, _≤_, _<_, max, zero-le, suc-le-suc}
+use Prim.Native.Nat.{ℕ, zero, suc, _+_, _*_, _^_, _≤_, _<_, max, zero-le, suc-le-suc}
 use native.Mathlib.Nat.{zero-add, lt-of-le-of-lt, le-trans, le-refl, not-suc-le-zero, mul-le-mul, max-zero, le-max-left, le-max-right, max-le}
 use native.Mathlib.Omega.{arith}
-use borrow.Author.Tests.{ltb-true}
-use lib.Dec.{T}
+use borrow.Author.Tests.{ltb-true, lt-ltb, le-ltb}
+use lib.Dec.{T, ltb}
 use lib.IntN.{ℤ, pos, negsuc, negℤ, natAbs, _+ℤ_, _-ℤ_, _*ℤ_, +ℤ-one, +ℤ-comm, negℤ-+ℤ, negℤ-negℤ}
-use lib.ListN.{length, getD, take, drop}
+use lib.ListN.{length, getD, take}
 use lib.Seq.{take-suc}
 use lib.Signed.{mag, ltZ, nonNeg}
 use mir.Syntax.{Width, w16, w32}
 use mir.Val.{SFits, hbits}
 use Rattle.ring.proofs.Ring.{sides}
-use Rattle.ring.proofs.Whole.{mag-le, natAbs-mul, natAbs-neg, natAbs-add, pos-sub}
+use Rattle.ring.proofs.Whole.{mag-le, natAbs-mul, natAbs-neg, pos-sub}
 use Rattle.ring.proofs.Sums.{natAbs-sum}
 use Rattle.ring.specs.Poly.{sum, ofInts}
 use Rattle.ring.specs.Integers.{centred, largest, between, allBetween}
@@ -49,6 +49,9 @@ abs-centred {m} p v hp hv = sides p v (λ h. rw (← pos-sub h) (omega arith))
     in
     let less : v ≤ p = omega arith in
     rw (other, natAbs-neg, ← pos-sub less) (omega arith))
+
+pub difference-fits : {x y : ℕ} → x < 32768 → y < 32768 → SFits w16 (pos x -ℤ pos y)
+difference-fits {x} {y} hx hy = fits-abs w16 (pos x -ℤ pos y) (abs-centred y x hy hx)
 
 -- ---- absolute values
 
@@ -140,3 +143,23 @@ unfolding allBetween
 all-more low high xs i d h =
     ap (allBetween low high) (take-suc xs i d h) ∙ all-append low high (take i xs) (getD xs i d ∷ [])
     ∙ ap (λ (t : Bool). allBetween low high (take i xs) && t) (and-true (between low high (getD xs i d)))
+
+-- Two numbers are below m where the larger one is.
+both-below : (a c m : ℕ) → (ltb a m && ltb c m) ≡ ltb (max a c) m
+both-below a c m =
+    sides m a (λ h. rw (le-ltb a m h) (sym (le-ltb (max a c) m (omega arith))))
+    (λ h. rw (lt-ltb a m h)
+    (sides m c (λ k. le-ltb c m k ∙ sym (le-ltb (max a c) m (omega arith)))
+    (λ k. lt-ltb c m k ∙ sym (lt-ltb (max a c) m (omega arith)))))
+
+between-size : (b : ℕ) (x : ℤ) → between (negsuc b) (pos (suc b)) x ≡ ltb (natAbs x) (suc b)
+between-size b (pos n) = refl
+between-size b (negsuc n) =
+    and-true (ltb n b)
+    ∙ sides b n (λ h. le-ltb n b h ∙ sym (le-ltb (suc n) (suc b) (suc-le-suc h))) (λ h. lt-ltb n b h ∙ sym (lt-ltb (suc n) (suc b) (suc-le-suc h)))
+
+-- All lie strictly between −m and m, m = b + 1, where the largest absolute value is below m.
+pub all-between-size : (b : ℕ) (xs : List ℤ) → allBetween (negsuc b) (pos (suc b)) xs ≡ ltb (largest xs) (suc b)
+unfolding allBetween largest
+all-between-size b [] = sym (lt-ltb 0 (suc b) (suc-le-suc zero-le))
+all-between-size b (x ∷ xs) = ap₂ _&&_ (between-size b x) (all-between-size b xs) ∙ both-below (natAbs x) (largest xs) (suc b)

@@ -14,11 +14,23 @@ pub fn width(m: u32) -> u32
 }
 
 // c modulo 2^w.
-pub fn low_bits(c: u32, w: u32) -> u16
+fn low_bits(c: u32, w: u32) -> u16
     requires { ⌜ w ≤ 16 ⌝ }
     ensures { λ r. ⌜ r ≡ c % 2 ^ w ⌝ }
 {
     (c & ((1 << w) - 1)) as u16
+}
+
+// Each coefficient modulo 2^w.
+pub fn reduce(xs: &mut [u16], w: u32)
+    requires { ⌜ w ≤ 16 ⌝ }
+    ensures { λ _. ⌜ now (xs .exit) ≡ lowBits w (now (xs .entry)) ⌝ }
+{
+    let mut k = 0;
+    while k < xs.len() {
+        xs[k] = low_bits(xs[k] as u32, w);
+        k += 1;
+    }
 }
 
 fn byte_or_zero(s: &[u8], i: usize) -> u8

@@ -1,12 +1,10 @@
 // Polynomials modulo X^n + 1 with coefficients modulo 2^16, of which every modulus q of the scheme is a divisor.
-use crate::bits::low_bits;
 ghost use mathlib.Core.Path.{_≡_};
 ghost use mathlib.Core.List.{_++_};
 ghost use Prim.Native.Nat.{_+_, _*_, _%_, _≤_, _<_};
 ghost use lib.IntN.{pos, negℤ, _+ℤ_, _-ℤ_};
 ghost use lib.ListN.{length, getD};
 ghost use Rattle.hash.specs.Lists.{tabulate};
-ghost use Rattle.ring.specs.Bits.{lowBits};
 ghost use Rattle.ring.specs.Integers.{residue, centred};
 ghost use Rattle.ring.specs.Poly.{mul, plus, minus, ofNats, residues};
 ghost use Rattle.ring.specs.Terms.{addTerm, addFour};
@@ -131,18 +129,6 @@ pub fn centre(xs: &mut [u16], p: u16)
     let mut k = 0;
     while k < xs.len() {
         xs[k] = difference(xs[k], p);
-        k += 1;
-    }
-}
-
-// Each coefficient modulo 2^w.
-pub fn reduce(xs: &mut [u16], w: u32)
-    requires { ⌜ w ≤ 16 ⌝ }
-    ensures { λ _. ⌜ now (xs .exit) ≡ lowBits w (now (xs .entry)) ⌝ }
-{
-    let mut k = 0;
-    while k < xs.len() {
-        xs[k] = low_bits(xs[k] as u32, w);
         k += 1;
     }
 }

@@ -19,22 +19,26 @@ cast-result c = search needs
 shl-result : tie.Need-shl-result
 shl-result c = search needs
 
+-- The bits that are added stand above the pending ones.
+joined : (c : tie.After-low-bits)
+    → c .before .args .pending + 2 ^ c .before .args .count * c .low-bits .result < 2 ^ (c .before .args .count + c .before .args .w)
+joined c =
+    let a = c .before .args in
+    join-fits (a .w) (a .count) (c .before .pre .2) (rw (c .low-bits .ensures) (mod-lt _ (pow-pos (a .w))))
+
 add-result : tie.Need-add-result
 add-result c =
-    let a = c .before .args in
-    let low : c .low-bits .result < 2 ^ a .w = rw (c .low-bits .ensures) (mod-lt (a .c) (pow-pos (a .w))) in
-    let fits : a .pending + 2 ^ a .count * c .low-bits .result < 2 ^ (a .count + a .w) = join-fits (a .w) (a .count) (c .before .pre .2) low in
-    let narrow : a .count + a .w ≤ 23 = omega arith in
-    omega (arith, pow-mono narrow)
+    let narrow : c .before .args .count + c .before .args .w ≤ 23 = omega arith in
+    omega (arith, joined c, pow-mono narrow)
 
 returns : tie.Need-returns
 returns c =
     let a = c .before .args in
-    let low : c .low-bits .result < 2 ^ a .w = rw (c .low-bits .ensures) (mod-lt (a .c) (pow-pos (a .w))) in
-    let fits : a .pending + 2 ^ a .count * c .low-bits .result < 2 ^ (a .count + a .w) = join-fits (a .w) (a .count) (c .before .pre .2) low in
     let narrow : a .count + a .w ≤ 23 = omega arith in
-    let same : a .pending + c .low-bits .result * 2 ^ a .count % 4294967296 ≡ a .pending + 2 ^ a .count * c .low-bits .result = omega (arith, pow-mono narrow) in
-    (same ∙ rw (c .low-bits .ensures), rw same fits)
+    let same : a .pending + c .low-bits .result * 2 ^ a .count % 4294967296 ≡ a .pending + 2 ^ a .count * c .low-bits .result =
+    omega (arith, joined c, pow-mono narrow)
+    in
+    (same ∙ rw (c .low-bits .ensures), rw same (joined c))
 
 pub join-bits-spec : {M : Type 1} → statement M
 join-bits-spec = tie.close (tie.spec low-bits-requires cast-result shl-result add-result returns)

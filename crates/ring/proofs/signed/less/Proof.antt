@@ -5,9 +5,9 @@ use native.Mathlib.Omega.{arith}
 use borrow.Author.Needs.{needs}
 use lib.IntN.{pos}
 use mir.Syntax.{w16}
-use mir.Val.{SFits, toZ}
+use mir.Val.{toZ}
 use mir.ValLaws.{toZ-ofZ, toZ-pos}
-use Rattle.ring.proofs.Sizes.{fits-abs, abs-centred}
+use Rattle.ring.proofs.Sizes.{difference-fits}
 use Rattle.ring.specs.Integers.{centred}
 use Rattle.ring.proofs.signed.less.Statement.{statement}
 use Rattle.ring.proofs.signed.less.Tie as tie
@@ -18,21 +18,19 @@ cast-result c = search needs
 cast-result-2 : tie.Need-cast-result-2
 cast-result-2 c = search needs
 
+-- Both numbers are read as they are.
+plain-v : (c : tie.Start) → toZ w16 (c .args .v) ≡ pos (c .args .v)
+plain-v c = toZ-pos w16 (c .args .v) (omega arith)
+
+plain-p : (c : tie.Start) → toZ w16 (c .args .p) ≡ pos (c .args .p)
+plain-p c = toZ-pos w16 (c .args .p) (omega arith)
+
 sub-result : tie.Need-sub-result
-sub-result c =
-    let a = c .args in
-    let v : toZ w16 (a .v) ≡ pos (a .v) = toZ-pos w16 (a .v) (omega arith) in
-    let p : toZ w16 (a .p) ≡ pos (a .p) = toZ-pos w16 (a .p) (omega arith) in
-    let fits : SFits w16 (centred (a .p) (a .v)) = fits-abs w16 (centred (a .p) (a .v)) (abs-centred (a .p) (a .v) (omega arith) (omega arith)) in
-    rw (v, p) fits
+sub-result c = rw (plain-v c, plain-p c) (search difference-fits)
 
 returns : tie.Need-returns
 returns c =
-    let a = c .args in
-    let v : toZ w16 (a .v) ≡ pos (a .v) = toZ-pos w16 (a .v) (omega arith) in
-    let p : toZ w16 (a .p) ≡ pos (a .p) = toZ-pos w16 (a .p) (omega arith) in
-    let fits : SFits w16 (centred (a .p) (a .v)) = fits-abs w16 (centred (a .p) (a .v)) (abs-centred (a .p) (a .v) (omega arith) (omega arith)) in
-    rw (v, p) (toZ-ofZ w16 (centred (a .p) (a .v)) fits)
+    rw (plain-v c, plain-p c) (toZ-ofZ w16 (centred (c .args .p) (c .args .v)) (difference-fits (c .pre .0) (c .pre .1)))
 
 pub less-spec : {M : Type 1} → statement M
 less-spec = tie.close (tie.spec cast-result cast-result-2 sub-result returns)

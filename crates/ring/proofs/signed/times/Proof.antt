@@ -1,7 +1,7 @@
 -- `ring::signed::times` meets its contract: the product of two words of 16 bits fits.
 -- Assumes nothing.
 use mathlib.Core.Path.{_≡_}
-use lib.IntN.{ℤ, _*ℤ_}
+use lib.IntN.{_*ℤ_}
 use mir.Syntax.{w16, w32}
 use mir.Val.{toZ, ofZ}
 use mir.ValLaws.{toZ-ofZ}

@@ -1,4 +1,4 @@
--- `ring::poly::reduce` meets its contract: after k turns the first k coefficients are reduced.
+-- `ring::bits::reduce` meets its contract: after k turns the first k coefficients are reduced.
 -- Assumes nothing.
 use mathlib.Core.List.{map}
 use mathlib.Core.Path.{_≡_, refl, sym, ap, _∙_}
@@ -9,8 +9,8 @@ use denote.Ref.{now}
 use lib.ListN.{length, getD, length-set}
 use Rattle.ring.proofs.Filling.{filled, filled-none, filled-more, filled-at, filled-all, tabulate-entries, map-tabulate}
 use Rattle.ring.specs.Bits.{lowBits}
-use Rattle.ring.proofs.poly.reduce.Statement.{statement}
-use Rattle.ring.proofs.poly.reduce.Tie as tie
+use Rattle.ring.proofs.bits.reduce.Statement.{statement}
+use Rattle.ring.proofs.bits.reduce.Tie as tie
 
 abbrev Inv-loop : tie.InvT-loop
 Inv-loop xs₀ w k₀ xs k =

@@ -1,0 +1,26 @@
+/*
+ * ring_ref.h: the ring in portable C, the baseline of the benchmark: the same methods as the library's,
+ * so that a ratio is about the compilers and not about the methods. No two slices of a call overlap.
+ */
+#ifndef RING_REF_H
+#define RING_REF_H
+
+#include <stddef.h>
+#include <stdint.h>
+
+/* Most coefficients of a product. */
+#define REF_MOST 512
+
+/* acc + a·b modulo X^n + 1 and 2^16; n is a multiple of 4. */
+void ref_multiply_add(uint16_t *acc, const uint16_t *a, const uint16_t *b, size_t n);
+
+/* The low w bits of each of n coefficients, w up to 16, in (w * n + 7) / 8 bytes. */
+void ref_pack(uint32_t w, const uint16_t *src, size_t n, uint8_t *dst);
+
+/* The first n coefficients of w bits, w up to 16, in src_len bytes. */
+void ref_unpack(uint32_t w, const uint8_t *src, size_t src_len, uint16_t *dst, size_t n);
+
+/* n coefficients of two bytes each, low byte first. */
+void ref_store(const uint16_t *src, uint8_t *dst, size_t n);
+
+#endif

@@ -1,0 +1,2 @@
+-- The laws that the proofs of `ring_calls` share.
+pub mod Outcomes

@@ -1,0 +1,2 @@
+-- What the contracts of `ring_calls` say.
+pub mod Outcome
