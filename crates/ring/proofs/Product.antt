@@ -16,46 +16,42 @@ use Rattle.ring.proofs.Ring.{shifted-low, shifted-high, sides}
 use Rattle.ring.specs.Bits.{Below}
 use Rattle.ring.specs.Integers.{Cong, residue}
 use Rattle.ring.specs.Poly.{Poly, sum, shifted, mul, plus, ofNats, residues}
-use Rattle.ring.specs.Terms.{addTerm, addFour}
-
--- The factor b twice in a row, negated first.
-abbrev pub doubled : ℕ → List ℕ → List ℕ
-doubled q b = residues q (length b) (λ k. negℤ (ofNats b k)) ++ b
+use Rattle.ring.specs.Terms.{addTerm, addFour, doubled}
 
 -- From place n − i on stand the coefficients of X^i times b.
-pub doubled-at : {q : ℕ} → 0 < q → (b : List ℕ) (i k : ℕ) → i < length b → k < length b
-    → Cong q (pos (getD (doubled q b) (length b - i + k) 0)) (shifted (length b) (ofNats b) i k)
-doubled-at {q} p b i k hi hk =
+pub doubled-at : (b : List ℕ) (i k : ℕ) → i < length b → k < length b
+    → Cong 65536 (pos (getD (doubled b) (length b - i + k) 0)) (shifted (length b) (ofNats b) i k)
+doubled-at b i k hi hk =
     let n = length b in
     let f : Poly = λ k. negℤ (ofNats b k) in
-    let front : length (residues q n f) ≡ n = length-residues q n f in
+    let front : length (residues 65536 n f) ≡ n = length-residues 65536 n f in
     sides i k
     (λ h.
-    let place : n - i + k ≡ length (residues q n f) + (k - i) = rw front (omega arith) in
+    let place : n - i + k ≡ length (residues 65536 n f) + (k - i) = rw front (omega arith) in
     cong-of-eq
-    (ap pos (ap (λ (j : ℕ). getD (doubled q b) j 0) place ∙ getD-append-add (residues q n f) b (k - i) 0)
+    (ap pos (ap (λ (j : ℕ). getD (doubled b) j 0) place ∙ getD-append-add (residues 65536 n f) b (k - i) 0)
     ∙ sym (shifted-low n (ofNats b) h)))
     (λ h.
     let place : n - i + k ≡ n + k - i = omega arith in
     let inside : n - i + k < n = omega arith in
     cong-trans
-    (cong-of-eq (ap pos (List·getD-append (residues q n f) b 0 (n - i + k) (rw front inside) ∙ residues-at q n f inside)))
-    (cong-trans (residue-cong p (f (n - i + k)))
+    (cong-of-eq (ap pos (List·getD-append (residues 65536 n f) b 0 (n - i + k) (rw front inside) ∙ residues-at 65536 n f inside)))
+    (cong-trans (residue-cong {q = 65536} (suc-le-suc zero-le) (f (n - i + k)))
     (cong-of-eq (ap (λ (j : ℕ). negℤ (ofNats b j)) place ∙ sym (shifted-high n (ofNats b) h)))))
 
 -- The same in a longer row.
-pub row-at : (n : ℕ) (b row rest : List ℕ) → length b ≡ n → row ≡ doubled 65536 b → (j k : ℕ) → j < n → k < n
+pub row-at : (n : ℕ) (b row rest : List ℕ) → length b ≡ n → row ≡ doubled b → (j k : ℕ) → j < n → k < n
     → Cong 65536 (pos (getD (row ++ rest) (n - j + k) 0)) (shifted n (ofNats b) j k)
 row-at n b row rest l e j k hj hk =
     let long : length row ≡ n + n = ap length e ∙ length-append (residues 65536 (length b) (λ k. negℤ (ofNats b k))) b
     ∙ rw (length-residues, l)
     in
     let inside : length b - j + k < length row = omega arith in
-    let front : getD (row ++ rest) (length b - j + k) 0 ≡ getD (doubled 65536 b) (length b - j + k) 0 =
+    let front : getD (row ++ rest) (length b - j + k) 0 ≡ getD (doubled b) (length b - j + k) 0 =
     List·getD-append row rest 0 (length b - j + k) inside ∙ ap (λ (r : List ℕ). getD r (length b - j + k) 0) e
     in
     rw (← l)
-    (cong-trans (cong-of-eq (ap pos front)) (doubled-at {q = 65536} (suc-le-suc zero-le) b j k (omega arith) (omega arith)))
+    (cong-trans (cong-of-eq (ap pos front)) (doubled-at b j k (omega arith) (omega arith)))
 
 -- The lengths of such a row in its room of 1024 entries, and of the part that four of its shifts reach.
 pub row-long : (n : ℕ) (row room : List ℕ) → length row ≡ 2 * n → length room ≡ 1024 → n ≤ 512

@@ -2,4 +2,5 @@
 pub mod Bits
 pub mod Integers
 pub mod Poly
+pub mod Coefficients
 pub mod Terms

@@ -1,13 +1,13 @@
 // Polynomials modulo X^n + 1 with coefficients modulo 2^16, of which every modulus q of the scheme is a divisor.
 ghost use mathlib.Core.Path.{_≡_};
-ghost use mathlib.Core.List.{_++_};
-ghost use Prim.Native.Nat.{_+_, _*_, _%_, _≤_, _<_};
+ghost use Prim.Native.Nat.{_+_, _*_};
 ghost use lib.IntN.{pos, negℤ, _+ℤ_, _-ℤ_};
-ghost use lib.ListN.{length, getD};
+ghost use lib.ListN.{length};
 ghost use Rattle.hash.specs.Lists.{tabulate};
-ghost use Rattle.ring.specs.Integers.{residue, centred};
-ghost use Rattle.ring.specs.Poly.{mul, plus, minus, ofNats, residues};
-ghost use Rattle.ring.specs.Terms.{addTerm, addFour};
+ghost use Rattle.ring.specs.Integers.{residue};
+ghost use Rattle.ring.specs.Poly.{ofNats, residues};
+ghost use Rattle.ring.specs.Coefficients.{Factors, withProduct, added, subtracted, centredWords};
+ghost use Rattle.ring.specs.Terms.{addTerm, addFour, doubled};
 
 // A term more, modulo 2^16.
 fn add_term(acc: u16, a: u16, b: u16) -> u16
@@ -66,7 +66,7 @@ fn copy(src: &[u16], dst: &mut [u16])
 // −b and then b: from place n − i on stand the coefficients of X^i times b.
 fn double(b: &[u16], row: &mut [u16])
     requires { ⌜ length (now row) ≡ 2 * length (now b) ⌝ }
-    ensures { λ _. ⌜ now (row .exit) ≡ residues 65536 (length (now (b .entry))) (λ k. negℤ (ofNats (now (b .entry)) k)) ++ now (b .entry) ⌝ }
+    ensures { λ _. ⌜ now (row .exit) ≡ doubled (now (b .entry)) ⌝ }
 {
     let n = b.len();
     negate(b, &mut row[..n]);
@@ -79,9 +79,8 @@ fn zeros() -> [u16; 1024] {
 
 // acc + a·b.
 pub fn multiply_add(acc: &mut [u16], a: &[u16], b: &[u16])
-    requires { ⌜ (length (now a) ≡ length (now acc)) × (length (now b) ≡ length (now acc)) × (length (now acc) % 4 ≡ 0) × (length (now acc) ≤ 512) ⌝ }
-    ensures { λ _. ⌜ now (acc .exit) ≡ residues 65536 (length (now (acc .entry)))
-        (plus (ofNats (now (acc .entry))) (mul (length (now (acc .entry))) (ofNats (now (a .entry))) (ofNats (now (b .entry))))) ⌝ }
+    requires { ⌜ Factors (now acc) (now a) (now b) ⌝ }
+    ensures { λ _. ⌜ now (acc .exit) ≡ withProduct (now (acc .entry)) (now (a .entry)) (now (b .entry)) ⌝ }
 {
     let n = acc.len();
     let mut row = zeros();
@@ -102,7 +101,7 @@ pub fn multiply_add(acc: &mut [u16], a: &[u16], b: &[u16])
 
 pub fn add(acc: &mut [u16], b: &[u16])
     requires { ⌜ length (now b) ≡ length (now acc) ⌝ }
-    ensures { λ _. ⌜ now (acc .exit) ≡ residues 65536 (length (now (acc .entry))) (plus (ofNats (now (acc .entry))) (ofNats (now (b .entry)))) ⌝ }
+    ensures { λ _. ⌜ now (acc .exit) ≡ added (now (acc .entry)) (now (b .entry)) ⌝ }
 {
     let mut k = 0;
     while k < acc.len() {
@@ -113,7 +112,7 @@ pub fn add(acc: &mut [u16], b: &[u16])
 
 pub fn subtract(acc: &mut [u16], b: &[u16])
     requires { ⌜ length (now b) ≡ length (now acc) ⌝ }
-    ensures { λ _. ⌜ now (acc .exit) ≡ residues 65536 (length (now (acc .entry))) (minus (ofNats (now (acc .entry))) (ofNats (now (b .entry)))) ⌝ }
+    ensures { λ _. ⌜ now (acc .exit) ≡ subtracted (now (acc .entry)) (now (b .entry)) ⌝ }
 {
     let mut k = 0;
     while k < acc.len() {
@@ -124,7 +123,7 @@ pub fn subtract(acc: &mut [u16], b: &[u16])
 
 // Each value less p.
 pub fn centre(xs: &mut [u16], p: u16)
-    ensures { λ _. ⌜ now (xs .exit) ≡ residues 65536 (length (now (xs .entry))) (λ k. centred p (getD (now (xs .entry)) k 0)) ⌝ }
+    ensures { λ _. ⌜ now (xs .exit) ≡ centredWords p (now (xs .entry)) ⌝ }
 {
     let mut k = 0;
     while k < xs.len() {

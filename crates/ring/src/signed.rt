@@ -2,14 +2,14 @@
 // size of what comes out.
 ghost use mathlib.Core.Path.{_≡_};
 ghost use mathlib.Core.List.{_++_};
-ghost use Prim.Native.Nat.{_+_, _-_, _*_, _^_, _≤_, _<_, max};
+ghost use Prim.Native.Nat.{_*_, _^_, _<_, max};
 ghost use lib.IntN.{natAbs, negℤ, _*ℤ_};
-ghost use lib.ListN.{length, getD};
-ghost use Rattle.hash.specs.Lists.{tabulate};
+ghost use lib.ListN.{length};
 ghost use Rattle.ring.specs.Bits.{Below};
-ghost use Rattle.ring.specs.Integers.{centred, largest, between, allBetween};
-ghost use Rattle.ring.specs.Poly.{sum, mul, plus, ofInts};
-ghost use Rattle.ring.specs.Terms.{Summable, backwards, negatedBackwards};
+ghost use Rattle.ring.specs.Integers.{centred, largest, allBetween};
+ghost use Rattle.ring.specs.Poly.{sum, ofInts};
+ghost use Rattle.ring.specs.Coefficients.{Summable, centredIntegers, withSignedProduct};
+ghost use Rattle.ring.specs.Terms.{backwards, negatedBackwards};
 
 fn less(v: u16, p: u16) -> i16
     requires { ⌜ (v < 32768) × (p < 32768) ⌝ }
@@ -21,7 +21,7 @@ fn less(v: u16, p: u16) -> i16
 // Each value less p.
 pub fn centre(src: &[u16], p: u16, dst: &mut [i16])
     requires { ⌜ (Below 32768 (now src)) × (p < 32768) × (length (now dst) ≡ length (now src)) ⌝ }
-    ensures { λ _. ⌜ now (dst .exit) ≡ tabulate (length (now (src .entry))) (λ k. centred p (getD (now (src .entry)) k 0)) ⌝ }
+    ensures { λ _. ⌜ now (dst .exit) ≡ centredIntegers p (now (src .entry)) ⌝ }
 {
     let mut k = 0;
     while k < src.len() {
@@ -100,8 +100,7 @@ fn zeros() -> [i16; 1024] {
 // acc + a·b.
 pub fn multiply_add(acc: &mut [i32], a: &[i16], b: &[i16])
     requires { ⌜ Summable (now acc) (now a) (now b) ⌝ }
-    ensures { λ _. ⌜ now (acc .exit) ≡ tabulate (length (now (acc .entry)))
-        (plus (ofInts (now (acc .entry))) (mul (length (now (acc .entry))) (ofInts (now (a .entry))) (ofInts (now (b .entry))))) ⌝ }
+    ensures { λ _. ⌜ now (acc .exit) ≡ withSignedProduct (now (acc .entry)) (now (a .entry)) (now (b .entry)) ⌝ }
 {
     let n = acc.len();
     let mut row = zeros();

@@ -1,20 +1,16 @@
 // Calls of the ring layer for C hosts: its tests and its benchmark. They are no part of the library.
 ghost use mathlib.Core.Path.{_≡_};
-ghost use Prim.Native.Nat.{_*_, _%_, _≤_};
+ghost use Prim.Native.Nat.{_*_, _≤_};
 ghost use lib.ListN.{length};
 ghost use Rattle.ring.specs.Bits.{bytesFor, pack, unpack, lowBits};
-ghost use Rattle.ring.specs.Poly.{mul, plus, ofNats, residues};
+ghost use Rattle.ring.specs.Coefficients.{Factors, withProduct};
 ghost use Rattle.ring_calls.specs.Outcome.{Outcome};
 
 // acc + a·b modulo X^n + 1 and 2^16.
 #[no_mangle]
 pub extern "C" fn ring_multiply_add(acc: &mut [u16], a: &[u16], b: &[u16]) -> u32
-    ensures { λ r. ⌜ Outcome
-        ((length (now (a .entry)) ≡ length (now (acc .entry))) × (length (now (b .entry)) ≡ length (now (acc .entry)))
-        × (length (now (acc .entry)) % 4 ≡ 0) × (length (now (acc .entry)) ≤ 512))
-        r (now (acc .exit)) (now (acc .entry))
-        (residues 65536 (length (now (acc .entry)))
-        (plus (ofNats (now (acc .entry))) (mul (length (now (acc .entry))) (ofNats (now (a .entry))) (ofNats (now (b .entry)))))) ⌝ }
+    ensures { λ r. ⌜ Outcome (Factors (now (acc .entry)) (now (a .entry)) (now (b .entry)))
+        r (now (acc .exit)) (now (acc .entry)) (withProduct (now (acc .entry)) (now (a .entry)) (now (b .entry))) ⌝ }
 {
     let n = acc.len();
     if a.len() != n {

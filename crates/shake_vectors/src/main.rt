@@ -5,31 +5,8 @@
 use libc::STDIN_FILENO;
 use libc::STDOUT_FILENO;
 ghost use mathlib.Core.Path.{_≡_};
-ghost use Prim.Native.Nat.{_+_, _*_, _≤_, _<_};
+ghost use Prim.Native.Nat.{_+_, _*_};
 ghost use lib.ListN.{length};
-
-fn pair(low: u8, high: u8) -> usize
-    ensures { λ r. ⌜ r < 65536 ⌝ }
-{
-    low as usize + 256 * (high as usize)
-}
-
-fn digit(n: u8) -> u8 {
-    let d = n % 16;
-    if d < 10 { 48 + d } else { 87 + d }
-}
-
-fn spell(bytes: &[u8], line: &mut [u8])
-    requires { ⌜ 2 * length (now bytes) ≤ length (now line) ⌝ }
-{
-    let mut i = 0;
-    while i < bytes.len() {
-        let b = bytes[i];
-        line[2 * i] = digit(b / 16);
-        line[2 * i + 1] = digit(b);
-        i += 1;
-    }
-}
 
 fn run(kind: u8, input: &[u8], output: &mut [u8]) -> bool {
     if kind == 1 {
@@ -51,8 +28,9 @@ fn answer(kind: u8, input: &[u8], output: &mut [u8], line: &mut [u8]) -> bool
     if !ok {
         return false;
     }
-    spell(output, line);
-    line[2 * output.len()] = 10;
+    let m = 2 * output.len();
+    hex::spell(output, &mut line[..m]);
+    line[m] = 10;
     io::write_all(STDOUT_FILENO, line)
 }
 
@@ -62,8 +40,8 @@ fn one_case(input: &mut [u8], output: &mut [u8], line: &mut [u8]) -> bool {
     if io::read_full(STDIN_FILENO, &mut head) != 5 {
         return false;
     }
-    let n = pair(head[1], head[2]);
-    let m = pair(head[3], head[4]);
+    let n = hex::pair(head[1], head[2]) as usize;
+    let m = hex::pair(head[3], head[4]) as usize;
     let end = 2 * m + 1;
     if input.len() < n {
         return false;

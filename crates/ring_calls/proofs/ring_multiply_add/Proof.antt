@@ -7,16 +7,16 @@ use Rattle.ring_calls.proofs.ring_multiply_add.Statement.{statement}
 use Rattle.ring_calls.proofs.ring_multiply_add.Tie as tie
 
 returns : tie.Need-returns
-returns c = refuse _ _ (λ f. c .if1 .taken (f .0))
+returns c = refuse _ _ (λ f. c .if1 .taken (f .first))
 
 returns-2 : tie.Need-returns-2
-returns-2 c = refuse _ _ (λ f. c .if2 .taken (f .1))
+returns-2 c = refuse _ _ (λ f. c .if2 .taken (f .second))
 
 returns-3 : tie.Need-returns-3
-returns-3 c = refuse _ _ (λ f. c .if3 .taken (f .2))
+returns-3 c = refuse _ _ (λ f. c .if3 .taken (f .fours))
 
 returns-4 : tie.Need-returns-4
-returns-4 c = refuse _ _ (λ f. omega (arith, f .3))
+returns-4 c = refuse _ _ (λ f. omega (arith, f .short))
 
 multiply-add-requires : tie.Need-multiply-add-requires
 multiply-add-requires c κs = search needs

@@ -24,6 +24,9 @@ array-read-pair-2 c = search needs
 pair-requires : tie.Need-pair-requires
 pair-requires c κs = search needs
 
+cast-n : tie.Need-cast-n
+cast-n c = search needs
+
 array-read-pair-3 : tie.Need-array-read-pair-3
 array-read-pair-3 c = search needs
 
@@ -33,11 +36,14 @@ array-read-pair-4 c = search needs
 pair-requires-2 : tie.Need-pair-requires-2
 pair-requires-2 c κs = search needs
 
+cast-m : tie.Need-cast-m
+cast-m c = search needs
+
 mul-end : tie.Need-mul-end
-mul-end c = omega arith
+mul-end c = search needs
 
 add-end : tie.Need-add-end
-add-end c = omega arith
+add-end c = search needs
 
 returns-2 : tie.Need-returns-2
 returns-2 c = search needs
@@ -109,9 +115,11 @@ one-case-spec =
     array-read-pair
     array-read-pair-2
     pair-requires
+    cast-n
     array-read-pair-3
     array-read-pair-4
     pair-requires-2
+    cast-m
     mul-end
     add-end
     returns-2

@@ -1,0 +1,2 @@
+-- What the contracts of `hex` say: the hexadecimal digits of bytes.
+pub mod Digits
