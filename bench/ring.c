@@ -12,6 +12,8 @@
 #define COUNT(array) (sizeof(array) / sizeof((array)[0]))
 
 static uint16_t a[REF_MOST], b[REF_MOST], acc[REF_MOST], coefficients[REF_MOST];
+static int32_t integers[REF_MOST], numbers[REF_MOST];
+static uint32_t sizes[2];
 static uint8_t bytes[2 * REF_MOST], packed[2 * REF_MOST];
 
 /* How many coefficients a piece of work has, and how wide they are where that matters. */
@@ -46,6 +48,35 @@ static void c_product(void *arg)
     const struct size *s = arg;
 
     ref_multiply_add(acc, a, b, s->n);
+}
+
+/* Values of 3 bits, less 4, as secrets and errors are. */
+static void ours_signed(void *arg)
+{
+    const struct size *s = arg;
+
+    accepted(ring_signed_product(s->w, 4, bytes, bytes_for(s), bytes + REF_MOST, bytes_for(s), integers, s->n));
+}
+
+static void c_signed(void *arg)
+{
+    const struct size *s = arg;
+
+    ref_signed_product(s->w, 4, bytes, bytes + REF_MOST, bytes_for(s), integers, s->n);
+}
+
+static void ours_sizes(void *arg)
+{
+    const struct size *s = arg;
+
+    sizes[0] = ring_sizes(numbers, s->n, -4096, 4096, &sizes[1]);
+}
+
+static void c_sizes(void *arg)
+{
+    const struct size *s = arg;
+
+    sizes[0] = ref_sizes(numbers, s->n, -4096, 4096, &sizes[1]);
 }
 
 static void ours_pack(void *arg)
@@ -86,6 +117,9 @@ static const struct work {
 } works[] = {
     { "product modulo 2^16, n = 256", ours_product, c_product, { 256, 0 }, acc, sizeof acc },
     { "product modulo 2^16, n = 512", ours_product, c_product, { 512, 0 }, acc, sizeof acc },
+    { "signed product, n = 256", ours_signed, c_signed, { 256, 3 }, integers, sizeof integers },
+    { "signed product, n = 512", ours_signed, c_signed, { 512, 3 }, integers, sizeof integers },
+    { "sizes of 512 numbers", ours_sizes, c_sizes, { 512, 0 }, sizes, sizeof sizes },
     { "pack 512 coefficients in 14 bits", ours_pack, c_pack, { 512, 14 }, packed, sizeof packed },
     { "pack 512 coefficients in 2 bits", ours_pack, c_pack, { 512, 2 }, packed, sizeof packed },
     { "unpack 512 coefficients of 14 bits", ours_unpack, c_unpack, { 512, 14 }, coefficients, sizeof coefficients },
@@ -99,6 +133,7 @@ static void fill(void)
     for (i = 0; i < REF_MOST; i++) {
         a[i] = (uint16_t)(i * 40503 + (i >> 3) * 77 + 12345);
         b[i] = (uint16_t)(i * 25173 + (i >> 2) * 91 + 13849);
+        numbers[i] = (int32_t)(a[i] % 8191) - 4095;
     }
     ref_store(b, bytes, REF_MOST);
 }
@@ -106,7 +141,7 @@ static void fill(void)
 /* A figure of two programs that do different things says nothing. */
 static void check(const struct work *work)
 {
-    static uint8_t expected[sizeof acc];
+    static uint8_t expected[sizeof integers];
     struct size size = work->size;
 
     memset(work->result, 0x5a, work->result_size);

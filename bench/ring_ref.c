@@ -81,6 +81,57 @@ void ref_unpack(uint32_t w, const uint8_t *src, size_t src_len, uint16_t *dst, s
     }
 }
 
+static int32_t dot(const int16_t *restrict a, const int16_t *restrict b, size_t n)
+{
+    int32_t total = 0;
+    size_t i;
+
+    for (i = 0; i < n; i++)
+        total += (int32_t)a[i] * b[i];
+    return total;
+}
+
+static void centre(uint32_t w, uint16_t p, const uint8_t *bytes, size_t size, int16_t *xs, size_t n)
+{
+    uint16_t values[REF_MOST];
+    size_t i;
+
+    ref_unpack(w, bytes, size, values, n);
+    for (i = 0; i < n; i++)
+        xs[i] = (int16_t)(values[i] - p);
+}
+
+void ref_signed_product(uint32_t w, uint16_t p, const uint8_t *a, const uint8_t *b, size_t size, int32_t *product, size_t n)
+{
+    int16_t xs[REF_MOST], ys[REF_MOST], row[2 * REF_MOST];
+    size_t i, k;
+
+    centre(w, p, a, size, xs, n);
+    centre(w, p, b, size, ys, n);
+    /* y and then -y, both from the last coefficient down: a part of n stands for each place. */
+    for (i = 0; i < n; i++) {
+        row[i] = ys[n - 1 - i];
+        row[n + i] = (int16_t)-ys[n - 1 - i];
+    }
+    for (k = 0; k < n; k++)
+        product[k] = dot(xs, row + n - 1 - k, n);
+}
+
+uint32_t ref_sizes(const int32_t *xs, size_t n, int32_t low, int32_t high, uint32_t *most)
+{
+    uint32_t m = 0, all = 1;
+    size_t i;
+
+    for (i = 0; i < n; i++) {
+        uint32_t size = xs[i] < 0 ? 0u - (uint32_t)xs[i] : (uint32_t)xs[i];
+
+        m = m < size ? size : m;
+        all &= (uint32_t)(low < xs[i]) & (uint32_t)(xs[i] < high);
+    }
+    *most = m;
+    return all;
+}
+
 void ref_store(const uint16_t *src, uint8_t *dst, size_t n)
 {
     size_t i;

@@ -21,7 +21,7 @@ CALLS = 8000
 MOST = 512
 
 # Letters of struct for the elements of a slice.
-BYTE, COEFFICIENT = "B", "H"
+BYTE, COEFFICIENT, INTEGER = "B", "H", "i"
 
 
 def values(rng, n, low, high):
@@ -49,7 +49,7 @@ def factor_lengths(rng):
     return lengths
 
 
-# Each kind of call gives its width, its slices, which of them is the output, and what that is to hold, or
+# Each kind of call gives the numbers before its slices, its slices, which of them is the output, and what that is to hold, or
 # None for a refusal.
 def multiply_add(rng):
     small = rng.choice(((0, 7), (2**16 - 4, 2**16 - 1), (0, 2**16 - 1)))
@@ -59,8 +59,8 @@ def multiply_add(rng):
     slices = [(COEFFICIENT, one) for one in lists]
     n = lengths[0]
     if lengths != [n] * 3 or n > MOST or n % 4 != 0:
-        return None, slices, 0, None
-    return None, slices, 0, ring.modulo(2**16, ring.add(lists[0], ring.product(lists[1], lists[2])))
+        return (), slices, 0, None
+    return (), slices, 0, ring.modulo(2**16, ring.add(lists[0], ring.product(lists[1], lists[2])))
 
 
 def string(rng, changes):
@@ -77,17 +77,45 @@ def pack(rng):
     n, w, size, over = string(rng, (-1, 1, 2))
     source = values(rng, n, 0, 2**16 - 1)
     slices = [(COEFFICIENT, source), (BYTE, values(rng, size, 0, 255))]
-    return w, slices, 1, list(ring.pack(w, source)) if over == 0 and w <= 16 else None
+    return (w,), slices, 1, list(ring.pack(w, source)) if over == 0 and w <= 16 else None
 
 
 def unpack(rng):
     n, w, size, over = string(rng, (-2, -1, 1, 2, 30))
     source = values(rng, size, 0, 255)
     slices = [(BYTE, source), (COEFFICIENT, values(rng, n, 0, 2**16 - 1))]
-    return w, slices, 1, ring.unpack(w, n, source) if over >= 0 and w <= 16 else None
+    return (w,), slices, 1, ring.unpack(w, n, source) if over >= 0 and w <= 16 else None
 
 
-KINDS = {"ring_multiply_add": multiply_add, "ring_pack": pack, "ring_unpack": unpack}
+def signed_product(rng):
+    n, w = rng.choice((0, 1, 2, 3, 5, 255, 256, 511, 512, 513, 600)), rng.choice((1, 2, 3, 9, 10, 11, 16, 33))
+    p = rng.choice((0, 1, 2, 4, 1023, 1024, 1025, 2**16 - 1))
+    right = (w * n + 7) // 8
+    sizes = [max(0, right + rng.choice((0, 0, 0, 1, -1))) for _ in range(2)]
+    strings = [values(rng, size, 0, 255) for size in sizes]
+    slices = [(BYTE, one) for one in strings] + [(INTEGER, values(rng, n, -2**31, 2**31 - 1))]
+    if n > MOST or w > 10 or p > 1024 or min(sizes) < right:
+        return (w, p), slices, 2, None
+    return (w, p), slices, 2, ring.product(*(ring.centre(ring.unpack(w, n, one), p) for one in strings))
+
+
+def sizes_call(rng, library):
+    """The largest absolute value and the interval, at its ends too; such a call refuses nothing."""
+    bound = rng.choice((0, 1, 2048, 4096, 2**31 - 1))
+    low, high = rng.choice(((-bound, bound), (-2**31, bound), (rng.randint(-9, 9), rng.randint(-9, 9))))
+    ends = [x for x in (low - 1, low, low + 1, high - 1, high, high + 1, -2**31, 2**31 - 1) if -2**31 <= x < 2**31]
+    xs = [rng.choice(ends) if rng.random() < 0.3 else rng.randint(min(low, high), max(low, high))
+          for _ in range(rng.choice((0, 1, 2, 7, 256, 512)))]
+    room, most = buffer(rng, INTEGER, xs), ctypes.c_uint32(77)
+    answer = library.ring_sizes(room.pointer(), ctypes.c_size_t(len(xs)), ctypes.c_int32(low), ctypes.c_int32(high),
+                                ctypes.byref(most))
+    check(most.value == ring.largest(xs), f"ring_sizes: largest {most.value}, {len(xs)} numbers")
+    check(answer == ring.strictly_between(low, high, xs), f"ring_sizes: between {low} and {high}: {answer}")
+    return False
+
+
+KINDS = {"ring_multiply_add": multiply_add, "ring_pack": pack, "ring_unpack": unpack,
+         "ring_signed_product": signed_product}
 
 
 def buffer(rng, code, content):
@@ -99,15 +127,17 @@ def buffer(rng, code, content):
 
 def one_call(rng, library):
     """Makes one call; True where it was one that has to be refused."""
-    name = rng.choice(list(KINDS))
-    width, slices, out, expected = KINDS[name](rng)
+    name = rng.choice([*KINDS, "ring_sizes"])
+    if name == "ring_sizes":
+        return sizes_call(rng, library)
+    numbers, slices, out, expected = KINDS[name](rng)
     buffers = [buffer(rng, code, content) for code, content in slices]
-    words = [] if width is None else [ctypes.c_uint32(width)]
+    words = [ctypes.c_uint32(number) for number in numbers]
     for room, (_, content) in zip(buffers, slices):
         null = not content and rng.random() < 0.5
         words += [None if null else room.pointer(), ctypes.c_size_t(len(content))]
     answer = getattr(library, name)(*words)
-    what = f"{name}, width {width}, lengths {[len(content) for _, content in slices]}"
+    what = f"{name}{numbers}, lengths {[len(content) for _, content in slices]}"
     refused = expected is None
     check(answer == refused, f"{what}: it answers {answer}")
     for i, (room, (code, content)) in enumerate(zip(buffers, slices)):
@@ -120,7 +150,7 @@ def one_call(rng, library):
 
 def test():
     library = load_library("ring_calls")
-    for name in KINDS:
+    for name in [*KINDS, "ring_sizes"]:
         getattr(library, name).restype = ctypes.c_uint32
     seed, answers = repeat(one_call, library, SEED, CALLS)
     return (f"{len(answers)} calls of the ring agree with the second implementation, "

@@ -12,6 +12,7 @@
 #define MOST 512
 
 static uint16_t acc[MOST], a[MOST], b[MOST];
+static int32_t integers[MOST];
 static uint8_t bytes[2 * MOST];
 
 #define HIDE(array) VALGRIND_MAKE_MEM_UNDEFINED(array, sizeof(array))
@@ -20,9 +21,9 @@ static uint8_t bytes[2 * MOST];
 /* Whether some bit of an element counts as made from what was marked. */
 static int depends(const uint8_t *element, size_t size)
 {
-    uint8_t seen[2] = { 0 };
+    uint8_t seen[4] = { 0 };
 
-    return VALGRIND_GET_VBITS(element, seen, size) == 1 && (seen[0] | seen[1]) != 0;
+    return VALGRIND_GET_VBITS(element, seen, size) == 1 && (seen[0] | seen[1] | seen[2] | seen[3]) != 0;
 }
 
 /* The call was accepted, and its result's first and last element depend on the coefficients. */
@@ -52,6 +53,19 @@ static int products(size_t n)
             return 0;
     }
     return 1;
+}
+
+/* The signed product of two strings, and the sizes of what comes out. */
+static int signed_products(size_t n)
+{
+    uint32_t most, all, answer;
+
+    HIDE(bytes);
+    answer = ring_signed_product(3, 4, bytes, sizeof bytes, bytes, sizeof bytes, integers, n);
+    if (!passed("a signed product", n, answer, integers, n, sizeof integers[0]))
+        return 0;
+    all = ring_sizes(integers, n, -100, 100, &most);
+    return passed("the largest number", n, 0, &most, 1, sizeof most) && passed("the interval", n, 0, &all, 1, sizeof all);
 }
 
 static int strings(uint32_t w, size_t n)
@@ -91,7 +105,7 @@ int main(int argc, char **argv)
     }
     fill();
     for (i = 0; i < n; i++)
-        if (!products(counts[i]))
+        if (!products(counts[i]) || !signed_products(counts[i]))
             return 1;
     for (w = 1; w <= 16; w++)
         for (i = 0; i < n; i++)

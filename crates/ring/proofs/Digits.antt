@@ -3,7 +3,7 @@
 use mathlib.Core.Path.{_≡_, refl, sym, ap, ap₂, _∙_}
 use mathlib.Core.List.{List, [], _∷_, _++_}
 use Prim.Native.Nat.{ℕ, zero, suc, _+_, _-_, _*_, _/_, _%_, _^_, _≤_, _<_, zero-le, suc-le-suc}
-use native.Mathlib.Nat.{not-suc-le-zero, le-of-suc-le-suc, mul-zero, mul-suc, div-div-eq-div-mul, mod-eq-of-lt, lt-of-lt-of-le, le-refl, div-one, mod-one, pow-zero, zero-div, zero-mod, mul-le-mul-left, zero-add, suc-add, mul-add, add-zero, pow-suc, mul-mod-left, mul-div-cancel}
+use native.Mathlib.Nat.{not-suc-le-zero, le-of-suc-le-suc, mul-zero, mul-suc, div-div-eq-div-mul, mod-lt, mod-eq-of-lt, lt-of-lt-of-le, le-refl, div-one, mod-one, pow-zero, zero-div, zero-mod, mul-le-mul-left, zero-add, suc-add, mul-add, add-zero, pow-suc, mul-mod-left, mul-div-cancel}
 use native.Mathlib.Omega.{arith}
 use lib.Count.{trailingZeros}
 use lib.ListN.{length, getD, take, drop, length-append}
@@ -12,7 +12,7 @@ use lib.Pow.{pow-add, pow-pos, pow-mono, high, low, mod-pow-add, mod-mod-pow, fi
 use Rattle.hash.specs.Lists.{tabulate, value, digits}
 use Rattle.hash.proofs.Entries.{tabulate-at}
 use Rattle.hash.proofs.Parts.{length-digits}
-use Rattle.ring.specs.Bits.{bytesFor, pack, unpack, Below, bit}
+use Rattle.ring.specs.Bits.{bytesFor, pack, unpack, lowBits, Below, bit}
 
 -- ---- numbers and their digits
 
@@ -163,6 +163,27 @@ four-bytes bs h = sym (value-take 8 bs 4 h) ∙ front bs
     front (a ∷ b ∷ c ∷ d ∷ r) = simp add-zero
 
 -- ---- packing
+
+-- Coefficients of w bits are below 2^w.
+digits-below : (w n v : ℕ) → Below (2 ^ w) (digits w n v)
+unfolding digits
+digits-below w zero v i = pow-pos w
+digits-below w (suc n) v zero = mod-lt v (pow-pos w)
+digits-below w (suc n) v (suc i) = digits-below w n (v / 2 ^ w) i
+
+pub unpack-below : (w n : ℕ) (bs : List ℕ) → Below (2 ^ w) (unpack w n bs)
+unfolding unpack
+unpack-below w n bs = digits-below w n (value 8 bs)
+
+pub lowBits-below : (w : ℕ) (cs : List ℕ) → Below (2 ^ w) (lowBits w cs)
+unfolding lowBits
+lowBits-below w [] i = pow-pos w
+lowBits-below w (c ∷ cs) zero = mod-lt c (pow-pos w)
+lowBits-below w (c ∷ cs) (suc i) = lowBits-below w cs i
+
+pub length-unpack : (w n : ℕ) (bs : List ℕ) → length (unpack w n bs) ≡ n
+unfolding unpack
+length-unpack w n bs = length-digits w n (value 8 bs)
 
 -- Unpacking gives back what was packed.
 pub unpack-pack : (w : ℕ) (cs : List ℕ) → Below (2 ^ w) cs → unpack w (length cs) (pack w cs) ≡ cs

@@ -4,7 +4,7 @@ use mathlib.Core.List.{List, [], _∷_, _++_, map, append-assoc, append-nil}
 use Prim.Native.Nat.{ℕ, zero, suc, _+_, _-_, _≤_, _<_, zero-le, suc-le-suc}
 use native.Mathlib.Numerals.{add-one}
 use native.Mathlib.Omega.{arith}
-use lib.ListN.{length, getD, drop, set, drop-of-length-le}
+use lib.ListN.{length, getD, drop, set, replicate, drop-of-length-le}
 use lib.Seq.{drop-cons, getD-append-add, getD-drop, set-at}
 use Rattle.hash.specs.Lists.{tabulate}
 use Rattle.hash.proofs.Entries.{length-tabulate, tabulate-add}
@@ -64,6 +64,11 @@ pub tabulate-entries : {A : Type 0} (xs : List A) (d : A) → tabulate (length x
 unfolding tabulate
 tabulate-entries [] d = refl
 tabulate-entries {A} (x ∷ xs) d = ap (λ (l : List A). x ∷ l) (tabulate-entries xs d)
+
+pub tabulate-constant : {A : Type 0} (n : ℕ) (x : A) → tabulate n (λ _. x) ≡ replicate n x
+unfolding tabulate
+tabulate-constant zero x = refl
+tabulate-constant {A} (suc n) x = ap (λ (l : List A). x ∷ l) (tabulate-constant n x)
 
 -- A function of the entries of a table.
 pub map-tabulate : {A B : Type 0} (f : A → B) (n : ℕ) (g : ℕ → A) → map f (tabulate n g) ≡ tabulate n (λ i. f (g i))

@@ -4,20 +4,23 @@ use mathlib.Core.Path.{_≡_, refl, sym, ap, ap₂, _∙_}
 use mathlib.Core.Bool.{Bool, true, false, _&&_}
 use mathlib.Core.List.{List, [], _∷_, _++_}
 use Prim.Native.Nat.{ℕ, zero, suc, _+_, _*_, _^_, _≤_, _<_, max, zero-le, suc-le-suc}
-use native.Mathlib.Nat.{zero-add, lt-of-le-of-lt, le-trans, le-refl, not-suc-le-zero, mul-le-mul, max-zero, le-max-left, le-max-right, max-le}
+use native.Mathlib.Nat.{zero-add, lt-of-le-of-lt, le-trans, le-refl, not-suc-le-zero, le-of-suc-le-suc, mul-le-mul, max-zero, le-max-left, le-max-right, max-le}
 use native.Mathlib.Omega.{arith}
 use borrow.Author.Tests.{ltb-true, lt-ltb, le-ltb}
 use lib.Dec.{T, ltb}
 use lib.IntN.{ℤ, pos, negsuc, negℤ, natAbs, _+ℤ_, _-ℤ_, _*ℤ_, +ℤ-one, +ℤ-comm, negℤ-+ℤ, negℤ-negℤ}
-use lib.ListN.{length, getD, take}
+use lib.ListN.{length, getD, take, replicate}
 use lib.Seq.{take-suc}
 use lib.Signed.{mag, ltZ, nonNeg}
 use mir.Syntax.{Width, w16, w32}
 use mir.Val.{SFits, hbits}
+use Rattle.hash.proofs.Entries.{tabulate-at, length-tabulate}
 use Rattle.ring.proofs.Ring.{sides}
 use Rattle.ring.proofs.Whole.{mag-le, natAbs-mul, natAbs-neg, pos-sub}
 use Rattle.ring.proofs.Sums.{natAbs-sum}
 use Rattle.ring.specs.Poly.{sum, ofInts}
+use Rattle.ring.specs.Bits.{Below}
+use Rattle.ring.specs.Coefficients.{centredIntegers}
 use Rattle.ring.specs.Integers.{centred, largest, between, allBetween}
 
 -- ---- signed words
@@ -41,7 +44,8 @@ product-fits x y hx hy =
     let most : natAbs x * natAbs y ≤ 32768 * 32768 = mul-le-mul (abs-fits w16 x hx) (abs-fits w16 y hy) in
     fits-abs w32 (x *ℤ y) (rw (natAbs-mul x y) (omega arith))
 
-pub abs-centred : {m : ℕ} (p v : ℕ) → p < m → v < m → natAbs (centred p v) < m
+-- A value up to m away from p, centred by p.
+pub abs-centred : {m : ℕ} (p v : ℕ) → p ≤ m → v ≤ p + m → natAbs (centred p v) ≤ m
 abs-centred {m} p v hp hv = sides p v (λ h. rw (← pos-sub h) (omega arith))
     (λ h.
     let other : centred p v ≡ negℤ (pos p -ℤ pos v) =
@@ -51,7 +55,9 @@ abs-centred {m} p v hp hv = sides p v (λ h. rw (← pos-sub h) (omega arith))
     rw (other, natAbs-neg, ← pos-sub less) (omega arith))
 
 pub difference-fits : {x y : ℕ} → x < 32768 → y < 32768 → SFits w16 (pos x -ℤ pos y)
-difference-fits {x} {y} hx hy = fits-abs w16 (pos x -ℤ pos y) (abs-centred y x hy hx)
+difference-fits {x} {y} hx hy =
+    let size : natAbs (pos x -ℤ pos y) ≤ 32767 = abs-centred y x (omega arith) (omega arith) in
+    fits-abs w16 (pos x -ℤ pos y) (suc-le-suc size)
 
 -- ---- absolute values
 
@@ -106,6 +112,20 @@ pub largest-le : (xs : List ℤ) (m : ℕ) → ((i : ℕ) → i < length xs → 
 unfolding largest
 largest-le [] m h = zero-le
 largest-le (x ∷ xs) m h = max-le (h zero (suc-le-suc zero-le)) (largest-le xs m (λ i k. h (suc i) (suc-le-suc k)))
+
+pub largest-zeros : (n : ℕ) → largest (replicate n (pos 0)) ≡ 0
+unfolding largest
+largest-zeros zero = refl
+largest-zeros (suc n) = rw (largest-zeros n)
+
+-- Values up to m away from p, centred by p.
+pub largest-centred : (p m : ℕ) (vs : List ℕ) → p ≤ m → Below (suc (p + m)) vs → largest (centredIntegers p vs) ≤ m
+largest-centred p m vs hp hv =
+    let f : ℕ → ℤ = λ k. centred p (getD vs k 0) in
+    largest-le (centredIntegers p vs) m
+    (λ i h.
+    let inside : i < length vs = rw (length-tabulate (length vs) f) at h in
+    rw (tabulate-at (length vs) f i (pos 0) inside) (abs-centred p (getD vs i 0) hp (le-of-suc-le-suc (hv i))))
 
 -- The sum of the first j products of entries, and that a word holds it.
 dot-size : (a b : List ℤ) (j : ℕ) → natAbs (sum j (λ i. ofInts a i *ℤ ofInts b i)) ≤ j * (largest a * largest b)

@@ -1,9 +1,9 @@
--- The outcome of a call that refuses lengths that do not fit. Rests on nothing.
+-- The outcome of a call that refuses lengths and widths that do not fit. Rests on nothing.
 use mathlib.Core.Path.{_≡_}
 use mathlib.Core.List.{List}
 use Prim.Native.Nat.{ℕ}
 
--- Where the lengths fit the call returns 0 and leaves what is wanted; else it returns 1 and leaves what was there.
-pub record Outcome (Fit : Type 0) (status : ℕ) (exit entry wanted : List ℕ) : Type 0 where
+-- Where they fit the call returns 0 and leaves what is wanted; else it returns 1 and leaves what was there.
+pub record Outcome {A : Type 0} (Fit : Type 0) (status : ℕ) (exit entry wanted : List A) : Type 0 where
   pub done : Fit → (status ≡ 0) × (exit ≡ wanted)
   pub refused : (Fit → ⊥) → (status ≡ 1) × (exit ≡ entry)
