@@ -135,8 +135,8 @@ pub extern "C" fn ring_signed_product(
         r (now (product .exit)) (now (product .entry))
         (signedProduct w p (length (now (product .entry))) (now (a .entry)) (now (b .entry))) ⌝ }
 {
-    let n = product.len();
-    if 512 < n {
+    let count = product.len();
+    if 512 < count {
         return 1;
     }
     if 10 < w {
@@ -145,7 +145,7 @@ pub extern "C" fn ring_signed_product(
     if 1024 < p {
         return 1;
     }
-    let bytes = (w as usize * n + 7) / 8;
+    let bytes = (w as usize * count + 7) / 8;
     if a.len() < bytes {
         return 1;
     }
@@ -160,9 +160,9 @@ pub extern "C" fn ring_signed_product(
         p,
         a,
         b,
-        &mut vs[..n],
-        &mut xs[..n],
-        &mut ys[..n],
+        &mut vs[..count],
+        &mut xs[..count],
+        &mut ys[..count],
         product,
     );
     0
