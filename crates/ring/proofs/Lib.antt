@@ -2,7 +2,7 @@
 pub mod Filling
 pub mod Digits
 pub mod Packing
-pub mod Whole
+pub mod Integers
 pub mod Modular
 pub mod Sums
 pub mod Ring

@@ -7,7 +7,7 @@ use native.Mathlib.Omega.{arith}
 use lib.IntN.{ℤ, pos, negsuc, negℤ, _+ℤ_, _-ℤ_, _*ℤ_, +ℤ-comm, +ℤ-idr, +ℤ-negℤ-cancel, -ℤ-+ℤ-cancel, *ℤ-zero}
 use lib.Pow.{pow-pos, pow-add}
 use Rattle.ring.specs.Integers.{Cong, residue, centred}
-use Rattle.ring.proofs.Whole.{ring, pos-sub, *ℤ-idr, *ℤ-neg-r, *ℤ-assoc}
+use Rattle.ring.proofs.Integers.{ring, pos-sub, *ℤ-idr, *ℤ-neg-r, *ℤ-assoc}
 
 -- ---- congruence
 

@@ -11,7 +11,7 @@ use Rattle.hash.proofs.Entries.{tabulate-at, length-tabulate}
 use Rattle.ring.proofs.Ring.{shifted-low, shifted-high, sides, natAbs-mul-poly}
 use Rattle.ring.proofs.Sizes.{le-largest, largest-le}
 use Rattle.ring.proofs.Sums.{sum-ext}
-use Rattle.ring.proofs.Whole.{natAbs-add, natAbs-neg}
+use Rattle.ring.proofs.Integers.{natAbs-add, natAbs-neg}
 use Rattle.ring.specs.Integers.{largest}
 use Rattle.ring.specs.Poly.{Poly, sum, shifted, mul, plus, ofInts}
 use Rattle.ring.specs.Terms.{backwards, negatedBackwards}

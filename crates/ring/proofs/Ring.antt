@@ -11,8 +11,8 @@ use lib.Arith.{lt→nleb}
 use lib.IntN.{ℤ, pos, negℤ, natAbs, _+ℤ_, _-ℤ_, _*ℤ_, *ℤ-zero, negℤ-+ℤ, negℤ-negℤ}
 use Rattle.ring.specs.Integers.{Cong}
 use Rattle.ring.specs.Poly.{Poly, sum, shifted, mul, unit, plus, minus, dot, apply, transposed}
-use Rattle.ring.proofs.Whole.{*ℤ-distl, *ℤ-distr, *ℤ-neg-l, *ℤ-neg-r, *ℤ-assoc, *ℤ-left-comm, *ℤ-idr}
-use Rattle.ring.proofs.Whole.{natAbs-mul, natAbs-neg}
+use Rattle.ring.proofs.Integers.{*ℤ-distl, *ℤ-distr, *ℤ-neg-l, *ℤ-neg-r, *ℤ-assoc, *ℤ-left-comm, *ℤ-idr}
+use Rattle.ring.proofs.Integers.{natAbs-mul, natAbs-neg}
 use Rattle.ring.proofs.Modular.{cong-neg, cong-mul}
 use Rattle.ring.proofs.Sums.{sum-ext, sum-add, sum-neg, sum-scale, sum-scale-r, sum-swap, sum-split, sum-cong}
 use Rattle.ring.proofs.Sums.{sum-one, natAbs-sum}

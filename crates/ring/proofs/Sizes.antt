@@ -16,7 +16,7 @@ use mir.Syntax.{Width, w16, w32}
 use mir.Val.{SFits, hbits}
 use Rattle.hash.proofs.Entries.{tabulate-at, length-tabulate}
 use Rattle.ring.proofs.Ring.{sides}
-use Rattle.ring.proofs.Whole.{mag-le, natAbs-mul, natAbs-neg, pos-sub}
+use Rattle.ring.proofs.Integers.{mag-le, natAbs-mul, natAbs-neg, pos-sub}
 use Rattle.ring.proofs.Sums.{natAbs-sum}
 use Rattle.ring.specs.Poly.{sum, ofInts}
 use Rattle.ring.specs.Bits.{Below}

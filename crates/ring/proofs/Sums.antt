@@ -8,7 +8,7 @@ use native.Mathlib.Omega.{arith}
 use lib.IntN.{ℤ, pos, negℤ, natAbs, _+ℤ_, _*ℤ_, +ℤ-assoc, +ℤ-idl, +ℤ-idr, negℤ-+ℤ, zero-*ℤ, *ℤ-zero}
 use Rattle.ring.specs.Integers.{Cong}
 use Rattle.ring.specs.Poly.{sum}
-use Rattle.ring.proofs.Whole.{+ℤ-left-comm, *ℤ-distl, *ℤ-distr, natAbs-add}
+use Rattle.ring.proofs.Integers.{+ℤ-left-comm, *ℤ-distl, *ℤ-distr, natAbs-add}
 use Rattle.ring.proofs.Modular.{cong-refl, cong-add}
 
 -- Equal terms have equal sums.

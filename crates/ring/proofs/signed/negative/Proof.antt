@@ -6,7 +6,7 @@ use mir.Syntax.{w16}
 use mir.Val.{SFits, toZ, ofZ}
 use mir.ValLaws.{toZ-ofZ}
 use Rattle.ring.proofs.Sizes.{fits-abs}
-use Rattle.ring.proofs.Whole.{natAbs-neg}
+use Rattle.ring.proofs.Integers.{natAbs-neg}
 use Rattle.ring.proofs.signed.negative.Statement.{statement}
 use Rattle.ring.proofs.signed.negative.Tie as tie
 
