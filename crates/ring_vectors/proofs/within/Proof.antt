@@ -1,11 +1,12 @@
 -- `ring_vectors::within` meets its contract: the opposite of a number of 16 bits fits.
 -- Assumes nothing.
 use mathlib.Core.Path.{_≡_}
+use Prim.Native.Nat.{_≤_}
 use native.Mathlib.Omega.{arith}
 use borrow.Author.Needs.{needs}
-use lib.IntN.{pos}
+use lib.IntN.{pos, natAbs}
 use mir.Syntax.{w32}
-use mir.Val.{SFits, toZ}
+use mir.Val.{toZ}
 use mir.ValLaws.{toZ-pos}
 use Rattle.ring.proofs.Sizes.{fits-abs, abs-centred}
 use Rattle.ring.specs.Integers.{centred}
@@ -19,8 +20,8 @@ sub-all-between : tie.Need-sub-all-between
 sub-all-between c =
     let b = c .args .bound in
     let same : toZ w32 b ≡ pos b = toZ-pos w32 b (omega arith) in
-    let fits : SFits w32 (centred b 0) = fits-abs w32 (centred b 0) (abs-centred b 0 (omega arith) (omega arith)) in
-    rw same fits
+    let size : natAbs (centred b 0) ≤ 65535 = abs-centred b 0 (omega arith) (omega arith) in
+    rw same (fits-abs w32 (centred b 0) (omega arith))
 
 all-between-requires : tie.Need-all-between-requires
 all-between-requires c κs = search needs
