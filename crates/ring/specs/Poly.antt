@@ -21,7 +21,8 @@ sum (suc n) f = sum n f +ℤ f n
 unfoldable pub shifted : ℕ → Poly → ℕ → Poly
 shifted n b i k = cond (leb i k) (b (k - i)) (negℤ (b (n + k - i)))
 
--- The product: coefficient k is the sum over i ≤ k of a_i b_(k−i) less the sum over i > k of a_i b_(n+k−i).
+-- The product, the sum of a_i times X^i b. The law `mul-read`: coefficient k is the sum over i ≤ k of a_i b_(k−i) less the sum
+-- over i > k of a_i b_(n+k−i).
 unfoldable pub mul : ℕ → Poly → Poly → Poly
 mul n a b k = sum n (λ i. a i *ℤ shifted n b i k)
 

@@ -1,11 +1,9 @@
 -- `ring_calls::ring_signed_product` meets its contract: each length and width is tested before the product.
 -- Assumes nothing.
 use mathlib.Core.Path.{_≡_}
-use Prim.Native.Nat.{_*_, _≤_}
 use native.Mathlib.Nat.{mul-le-mul}
 use native.Mathlib.Omega.{arith}
 use borrow.Author.Needs.{needs}
-use denote.Ref.{now}
 use lib.ListN.{length, length-take}
 use Rattle.ring_calls.proofs.Outcomes.{refuse, finish}
 use Rattle.ring_calls.proofs.ring_signed_product.Statement.{statement}
@@ -21,18 +19,10 @@ returns-3 : tie.Need-returns-3
 returns-3 c = refuse _ _ (λ f. omega (arith, f .near))
 
 mul-bytes : tie.Need-mul-bytes
-mul-bytes c =
-    let a = c .before .before .before .before .before .args in
-    let n = length (now (a .product)) in
-    let most : a .w * n ≤ 10 * 512 = mul-le-mul (c .before .if2 .left) (c .before .before .if1 .left) in
-    omega arith
+mul-bytes c = omega (arith, mul-le-mul (c .before .if2 .left) (c .before .before .if1 .left))
 
 add-bytes : tie.Need-add-bytes
-add-bytes c =
-    let a = c .before .before .before .before .before .args in
-    let n = length (now (a .product)) in
-    let most : a .w * n ≤ 10 * 512 = mul-le-mul (c .before .if2 .left) (c .before .before .if1 .left) in
-    omega arith
+add-bytes c = omega (arith, mul-le-mul (c .before .if2 .left) (c .before .before .if1 .left))
 
 returns-4 : tie.Need-returns-4
 returns-4 c = refuse _ _ (λ f. omega (arith, f .first))

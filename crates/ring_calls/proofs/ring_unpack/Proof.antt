@@ -1,11 +1,8 @@
 -- `ring_calls::ring_unpack` meets its contract: each length is tested before unpacking.
 -- Assumes nothing.
-use Prim.Native.Nat.{_*_, _≤_}
 use native.Mathlib.Nat.{mul-le-mul}
 use native.Mathlib.Omega.{arith}
 use borrow.Author.Needs.{needs}
-use denote.Ref.{now}
-use lib.ListN.{length}
 use Rattle.ring_calls.proofs.Outcomes.{refuse, finish}
 use Rattle.ring_calls.proofs.ring_unpack.Statement.{statement}
 use Rattle.ring_calls.proofs.ring_unpack.Tie as tie
@@ -17,16 +14,10 @@ returns-2 : tie.Need-returns-2
 returns-2 c = refuse _ _ (λ f. omega (arith, f .1))
 
 mul-bytes : tie.Need-mul-bytes
-mul-bytes c =
-    let a = c .before .before .before .before .args in
-    let most : a .w * length (now (a .dst)) ≤ 16 * 65536 = mul-le-mul (c .before .if1 .left) (c .if2 .left) in
-    omega arith
+mul-bytes c = omega (arith, mul-le-mul (c .before .if1 .left) (c .if2 .left))
 
 add-bytes : tie.Need-add-bytes
-add-bytes c =
-    let a = c .before .before .before .before .args in
-    let most : a .w * length (now (a .dst)) ≤ 16 * 65536 = mul-le-mul (c .before .if1 .left) (c .if2 .left) in
-    omega arith
+add-bytes c = omega (arith, mul-le-mul (c .before .if1 .left) (c .if2 .left))
 
 returns-3 : tie.Need-returns-3
 returns-3 c = refuse _ _ (λ f. omega (arith, f .2))
