@@ -1,7 +1,7 @@
 # make lib      the static library, target/staticlib/libscheme.a, proved and compiled by rt
 # make run      prove and run the test vectors, then the examples (TEXT='...' for the one of SHAKE)
 # make test     the merge gate: every proof, every must-fail edit, every host test
-# make vectors  make the stored test vectors again
+# make vectors  make the stored test vectors and known answers again
 # make bench    time the library beside portable C and, where it is installed, OpenSSL; measure its stack
 # make clean    remove all that was built
 
@@ -14,10 +14,10 @@ LIB = target/staticlib/libscheme.a
 # The ring's calls for the tests and the benchmark; no part of the library.
 RING = target/staticlib/libring_calls.a
 SOURCES := crates.txt $(shell find crates -name '*.rt' -o -name '*.antt')
-EXAMPLES = target/examples/shake
-BENCHES = target/bench/shake target/bench/ring target/bench/stack
+EXAMPLES = target/examples/shake target/examples/keys
+BENCHES = target/bench/shake target/bench/ring target/bench/scheme target/bench/stack
 BENCH_PARTS = bench/timing.c bench/timing.h bench/keccak_ref.c bench/keccak_ref.h \
-	bench/ring_ref.c bench/ring_ref.h bench/ring_calls.h
+	bench/ring_ref.c bench/ring_ref.h bench/ring_calls.h bench/kindi_ref.c bench/kindi_ref.h bench/sets.h
 
 # A short loop that crosses a cache line takes up to twice its time; so the C is not timed by chance.
 BENCH_FLAGS = -falign-loops=64
@@ -37,6 +37,7 @@ target/staticlib/lib%.a: $(SOURCES)
 run: $(EXAMPLES)
 	$(RT) check shake_vectors ring_vectors
 	target/examples/shake $${TEXT:+"$$TEXT"}
+	target/examples/keys
 
 target/examples/%: examples/%.c include/kindi.h $(LIB)
 	@mkdir -p $(@D)
@@ -48,6 +49,7 @@ test:
 vectors:
 	tests/vectors/shake_cases.py
 	tests/vectors/ring_cases.py
+	tests/vectors/kindi_cases.py
 
 bench: $(BENCHES)
 	for program in $(BENCHES); do $$program || exit 1; done
@@ -55,7 +57,7 @@ bench: $(BENCHES)
 target/bench/%: bench/%.c $(BENCH_PARTS) include/kindi.h $(LIB) $(RING)
 	@mkdir -p $(@D)
 	openssl=$$($(OPENSSL_PROBE)); \
-	$(CC) $(CFLAGS) $(BENCH_FLAGS) $(CPPFLAGS) -pthread $< $(filter %.c,$(BENCH_PARTS)) $(LIB) $(RING) $$openssl -o $@
+	$(CC) $(CFLAGS) $(BENCH_FLAGS) $(CPPFLAGS) -pthread $< $(filter %.c,$(BENCH_PARTS)) $(LIB) $(RING) $$openssl -lm -o $@
 
 clean:
 	rm -rf target

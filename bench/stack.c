@@ -11,30 +11,78 @@
 #include <string.h>
 
 #include "kindi.h"
+#include "sets.h"
 
 #define STACK (1 << 20)
 #define FILL 0xa7
 
+#define COUNT(array) (sizeof(array) / sizeof((array)[0]))
+
 static uint8_t input[1000], output[5000];
+static uint8_t mu[MOST_SEED], gamma_seed[MOST_SEED], z[MOST_SEED], coins[MOST_COINS], message[MOST_PADDED - 1];
+static uint8_t public_key[MOST_PUBLIC_KEY], secret_key[MOST_SECRET_KEY], key[MOST_COINS], ciphertext[MOST_CIPHERTEXT];
+static uint8_t work[MOST_WORK];
 
-static void *nothing(void *arg)
+/* A call in a parameter set, which is 0 where a call has none, and what it answered. */
+struct call {
+    const char *name;
+    uint32_t (*run)(uint32_t set);
+    uint32_t set, answer;
+};
+
+static uint32_t nothing(uint32_t set)
 {
-    return arg;
+    (void)set;
+    return 0;
 }
 
-static void *shake128(void *arg)
+static uint32_t shake128(uint32_t set)
 {
+    (void)set;
     kindi_shake128(input, sizeof input, output, sizeof output);
-    return arg;
+    return 0;
 }
 
-static void *shake256(void *arg)
+static uint32_t shake256(uint32_t set)
 {
+    (void)set;
     kindi_shake256(input, sizeof input, output, sizeof output);
-    return arg;
+    return 0;
 }
 
-static long touched(uint8_t *stack, void *(*call)(void *))
+static uint32_t keygen(uint32_t set)
+{
+    const struct lengths *len = &set_lengths[set - 1];
+
+    return kindi_keygen(set, mu, len->seed, gamma_seed, len->seed, z, len->seed, public_key, len->public_key,
+        secret_key, len->secret_key, work, len->keygen_work);
+}
+
+static uint32_t encrypt(uint32_t set)
+{
+    const struct lengths *len = &set_lengths[set - 1];
+
+    return kindi_encrypt(set, public_key, len->public_key, coins, len->coins, message, len->padded - 1, ciphertext,
+        len->ciphertext, work, len->encrypt_work);
+}
+
+static uint32_t encaps(uint32_t set)
+{
+    const struct lengths *len = &set_lengths[set - 1];
+
+    return kindi_encaps(set, public_key, len->public_key, coins, len->coins, key, len->coins, ciphertext,
+        len->ciphertext, work, len->encaps_work);
+}
+
+static void *run(void *arg)
+{
+    struct call *call = arg;
+
+    call->answer = call->run(call->set);
+    return NULL;
+}
+
+static long touched(uint8_t *stack, struct call *call)
 {
     pthread_attr_t attributes;
     pthread_t thread;
@@ -42,8 +90,14 @@ static long touched(uint8_t *stack, void *(*call)(void *))
 
     memset(stack, FILL, STACK);
     if (pthread_attr_init(&attributes) || pthread_attr_setstack(&attributes, stack, STACK)
-        || pthread_create(&thread, &attributes, call, NULL) || pthread_join(thread, NULL)) {
+        || pthread_create(&thread, &attributes, run, call) || pthread_join(thread, NULL)) {
         fprintf(stderr, "stack: no thread can be run\n");
+        exit(1);
+    }
+    /* A call that refuses does no work. */
+    if (call->answer != 0) {
+        fprintf(stderr, "stack: %s in set %lu was refused: %lu\n", call->name, (unsigned long)call->set,
+            (unsigned long)call->answer);
         exit(1);
     }
     while (i < STACK && stack[i] == FILL)
@@ -51,12 +105,23 @@ static long touched(uint8_t *stack, void *(*call)(void *))
     return STACK - i;
 }
 
+static void row(uint8_t *stack, struct call call, long idle)
+{
+    /* The first call of all has the dynamic linker find memcpy, on the caller's stack. */
+    run(&call);
+    printf("| `%s`", call.name);
+    if (call.set > 0)
+        printf(", set %lu", (unsigned long)call.set);
+    printf(" | %ld |\n", touched(stack, &call) - idle);
+}
+
 int main(void)
 {
-    static const struct {
-        const char *name;
-        void *(*call)(void *);
-    } calls[] = { { "kindi_shake128", shake128 }, { "kindi_shake256", shake256 } };
+    static const struct call hashes[] = { { "kindi_shake128", shake128, 0, 0 }, { "kindi_shake256", shake256, 0, 0 } };
+    static const struct call calls[] = {
+        { "kindi_keygen", keygen, 0, 0 }, { "kindi_encrypt", encrypt, 0, 0 }, { "kindi_encaps", encaps, 0, 0 },
+    };
+    struct call call = { "no call", nothing, 0, 0 };
     void *stack;
     long idle;
     size_t i;
@@ -65,13 +130,15 @@ int main(void)
         fprintf(stderr, "stack: no memory\n");
         return 1;
     }
-    idle = touched(stack, nothing);
-    /* The first call of all has the dynamic linker find memcpy, on the caller's stack. */
-    for (i = 0; i < sizeof calls / sizeof calls[0]; i++)
-        calls[i].call(NULL);
+    idle = touched(stack, &call);
     printf("\n| call | bytes of stack |\n|--|--:|\n");
-    for (i = 0; i < sizeof calls / sizeof calls[0]; i++)
-        printf("| `%s` | %ld |\n", calls[i].name, touched(stack, calls[i].call) - idle);
+    for (i = 0; i < COUNT(hashes); i++)
+        row(stack, hashes[i], idle);
+    for (i = 0; i < COUNT(calls); i++) {
+        call = calls[i];
+        for (call.set = 1; call.set <= SETS; call.set++)
+            row(stack, call, idle);
+    }
     free(stack);
     return 0;
 }

@@ -12,9 +12,9 @@
  *     uses.
  *   - A byte slice is passed as two arguments: a pointer to its first byte, then its length in bytes.
  *     The pointer may be NULL where the length is 0; otherwise that many bytes are there to read, and
- *     to write where the slice is an output.
- *   - The buffers of one call do not overlap.
- *   - A call writes its output slices and nothing else of the caller's.
+ *     to write where the slice is an output or the work area.
+ *   - The buffers of one call do not overlap, inputs included.
+ *   - A call writes its output slices and its work area, and nothing else of the caller's.
  */
 #ifndef KINDI_H
 #define KINDI_H
@@ -37,6 +37,121 @@ void kindi_shake128(const uint8_t *input, size_t input_len, uint8_t *output, siz
  * bytes. It has an answer for every pair of lengths, so it refuses nothing and returns nothing.
  */
 void kindi_shake256(const uint8_t *input, size_t input_len, uint8_t *output, size_t output_len);
+
+/*
+ * Parameter sets, by number. A key, a ciphertext and a shared key belong to one set, and the set is
+ * part of no buffer: the two sides agree on it.
+ *
+ *   set   n-l-p-t     q      hash
+ *   1     256-3-4-2   2^14   SHAKE128
+ *   2     512-2-2-2   2^13   SHAKE256
+ *   3     512-2-4-1   2^14   SHAKE256
+ *   4     512-3-2-1   2^13   SHAKE256
+ *
+ * The lengths below are in bytes. Each macro takes the number of a set, which it may evaluate more than
+ * once, and gives 0 for a number that is no set. With a constant set it is a constant, fit for the size
+ * of an array and for #if; with a variable it is computed where it stands.
+ */
+#define KINDI_BY_SET(set, len1, len2, len3, len4) \
+    ((set) == 1 ? (len1) : (set) == 2 ? (len2) : (set) == 3 ? (len3) : (set) == 4 ? (len4) : 0u)
+
+/* Each of the three seeds of a key pair: mu, gamma and z. */
+#define KINDI_SEED_LEN(set) KINDI_BY_SET(set, 32u, 64u, 64u, 64u)
+
+/* The coins of one encryption. */
+#define KINDI_COINS_LEN(set) KINDI_BY_SET(set, 32u, 64u, 64u, 64u)
+
+#define KINDI_PUBLIC_KEY_LEN(set) KINDI_BY_SET(set, 1184u, 1472u, 1728u, 2368u)
+#define KINDI_SECRET_KEY_LEN(set) KINDI_BY_SET(set, 1248u, 1600u, 1856u, 2496u)
+#define KINDI_CIPHERTEXT_LEN(set) KINDI_BY_SET(set, 1792u, 2496u, 2688u, 3328u)
+
+/* A shared key. */
+#define KINDI_KEY_LEN(set) KINDI_BY_SET(set, 32u, 64u, 64u, 64u)
+
+/* The longest message that one ciphertext holds; the shortest is empty. */
+#define KINDI_MESSAGE_MAX_LEN(set) KINDI_BY_SET(set, 383u, 383u, 575u, 511u)
+
+/* The least work area of each call. */
+#define KINDI_KEYGEN_WORK_LEN(set) KINDI_BY_SET(set, 4608u, 3840u, 4352u, 8256u)
+#define KINDI_ENCRYPT_WORK_LEN(set) KINDI_BY_SET(set, 4864u, 4160u, 4608u, 8512u)
+#define KINDI_ENCAPS_WORK_LEN(set) KINDI_BY_SET(set, 4864u, 4160u, 4608u, 8512u)
+
+/*
+ * What the calls below return: 0 for success, otherwise the number of a refusal. A call makes its checks
+ * in the order of these numbers, so where several things are wrong the lowest number is returned.
+ *
+ * A refusal leaves every output as it was. The work area is scratch memory that the caller lends, with
+ * any content and at any address. One that is long enough for the call is all zeros to its very end
+ * after every call, refused or not, so no secret stays in it; only KINDI_NO_SUCH_SET leaves it as it
+ * was. One that is too short is left as it was. Nothing is allocated.
+ */
+enum kindi_status {
+    KINDI_OK = 0,
+    KINDI_NO_SUCH_SET = 1,      /* the set's number is not 1 to 4 */
+    KINDI_WRONG_INPUT_LEN = 2,  /* a seed, coins or a key has not the length of its set */
+    KINDI_MESSAGE_TOO_LONG = 3, /* a message has more than KINDI_MESSAGE_MAX_LEN bytes */
+    KINDI_WRONG_OUTPUT_LEN = 4  /* an output has not its exact length, or the work area is too short */
+};
+
+/*
+ * Makes a key pair from three seeds.
+ *
+ * The seeds are fresh, uniformly random bytes for each key pair, and are drawn by the caller. mu is
+ * public: it is the end of the public key. gamma is the secret that the key pair rests on, and z a
+ * second secret that the secret key only stores; whoever knows gamma and the public key can decrypt.
+ * Seeds that a caller keeps make the same key pair again.
+ *
+ *   mu, gamma, z   KINDI_SEED_LEN bytes each
+ *   public_key     output, KINDI_PUBLIC_KEY_LEN bytes
+ *   secret_key     output, KINDI_SECRET_KEY_LEN bytes: the public key, gamma, z. Keep it secret
+ *   work           KINDI_KEYGEN_WORK_LEN bytes or more
+ *
+ * Returns KINDI_OK, KINDI_NO_SUCH_SET, KINDI_WRONG_INPUT_LEN or KINDI_WRONG_OUTPUT_LEN.
+ */
+uint32_t kindi_keygen(uint32_t set, const uint8_t *mu, size_t mu_len, const uint8_t *gamma,
+    size_t gamma_len, const uint8_t *z, size_t z_len, uint8_t *public_key, size_t public_key_len,
+    uint8_t *secret_key, size_t secret_key_len, uint8_t *work, size_t work_len);
+
+/*
+ * Encrypts a message to a public key.
+ *
+ * The coins are fresh, uniformly random and secret bytes for each ciphertext, drawn by the caller and
+ * never used again: two ciphertexts of the same coins and public key show where their messages differ,
+ * and whoever knows the coins can read the message, as whoever decrypts learns the coins. A ciphertext
+ * has one length for messages of every length. Any public key of the right length is taken; none is
+ * checked.
+ *
+ *   public_key   KINDI_PUBLIC_KEY_LEN bytes
+ *   coins        KINDI_COINS_LEN bytes
+ *   message      0 to KINDI_MESSAGE_MAX_LEN bytes
+ *   ciphertext   output, KINDI_CIPHERTEXT_LEN bytes
+ *   work         KINDI_ENCRYPT_WORK_LEN bytes or more
+ *
+ * Returns KINDI_OK, KINDI_NO_SUCH_SET, KINDI_WRONG_INPUT_LEN, KINDI_MESSAGE_TOO_LONG or
+ * KINDI_WRONG_OUTPUT_LEN.
+ */
+uint32_t kindi_encrypt(uint32_t set, const uint8_t *public_key, size_t public_key_len,
+    const uint8_t *coins, size_t coins_len, const uint8_t *message, size_t message_len,
+    uint8_t *ciphertext, size_t ciphertext_len, uint8_t *work, size_t work_len);
+
+/*
+ * Makes a shared key, and the ciphertext that takes it to the owner of a public key.
+ *
+ * The coins are fresh, uniformly random and secret bytes for each shared key, drawn by the caller and
+ * never used again, not for kindi_encrypt either: whoever knows the coins has the shared key. Any public
+ * key of the right length is taken; none is checked.
+ *
+ *   public_key   KINDI_PUBLIC_KEY_LEN bytes
+ *   coins        KINDI_COINS_LEN bytes
+ *   key          output, KINDI_KEY_LEN bytes: the shared key. Keep it secret
+ *   ciphertext   output, KINDI_CIPHERTEXT_LEN bytes
+ *   work         KINDI_ENCAPS_WORK_LEN bytes or more
+ *
+ * Returns KINDI_OK, KINDI_NO_SUCH_SET, KINDI_WRONG_INPUT_LEN or KINDI_WRONG_OUTPUT_LEN.
+ */
+uint32_t kindi_encaps(uint32_t set, const uint8_t *public_key, size_t public_key_len,
+    const uint8_t *coins, size_t coins_len, uint8_t *key, size_t key_len, uint8_t *ciphertext,
+    size_t ciphertext_len, uint8_t *work, size_t work_len);
 
 #ifdef __cplusplus
 }

@@ -1,13 +1,86 @@
 #!/usr/bin/env python3
-"""The header compiles alone, as C99 and as C++17, with every warning an error."""
+"""The header compiles alone, as C99 and as C++17, with every warning an error; and each length and
+refusal number that it has is the second implementation's, in a constant and at run time."""
 
-from support import HEADER, WARNINGS, main, run
+import re
+import sys
+
+from support import BUILD, HEADER, INCLUDE, ROOT, WARNINGS, check, main, run
+
+sys.path.insert(0, str(ROOT / "tests"))
+
+from second import kindi  # noqa: E402
+
+LANGUAGES = [("c", ["gcc", "-std=c99"]), ("c++", ["g++", "-std=c++17"])]
+
+# No set, the sets, no set.
+NUMBERS = range(6)
+
+LENGTHS = {
+    "KINDI_SEED_LEN": lambda s: s.seed,
+    "KINDI_COINS_LEN": lambda s: s.coins,
+    "KINDI_PUBLIC_KEY_LEN": lambda s: s.public_key,
+    "KINDI_SECRET_KEY_LEN": lambda s: s.secret_key,
+    "KINDI_CIPHERTEXT_LEN": lambda s: s.ciphertext,
+    "KINDI_KEY_LEN": lambda s: kindi.length(s, "key"),
+    "KINDI_MESSAGE_MAX_LEN": lambda s: s.message,
+    "KINDI_KEYGEN_WORK_LEN": kindi.CALLS["keygen"].work,
+    "KINDI_ENCRYPT_WORK_LEN": kindi.CALLS["encrypt"].work,
+    "KINDI_ENCAPS_WORK_LEN": kindi.CALLS["encaps"].work,
+}
+
+# In the order of their numbers, from 0.
+STATUSES = ("KINDI_OK", "KINDI_NO_SUCH_SET", "KINDI_WRONG_INPUT_LEN", "KINDI_MESSAGE_TOO_LONG",
+            "KINDI_WRONG_OUTPUT_LEN")
+
+
+def defined_lengths():
+    """The names of the header's macros that are lengths, as the compiler reads it."""
+    listing = run(["gcc", "-std=c99", "-E", "-dM", "-x", "c", HEADER])
+    return set(re.findall(r"^#define (KINDI_\w*_LEN)\(", listing, re.MULTILINE))
+
+
+def length(name, number):
+    return LENGTHS[name](kindi.SETS[number]) if number in kindi.SETS else 0
+
+
+def program():
+    """A program that stops compiling where a constant is wrong, and prints each length as it is at run
+    time; as an array's size, in #if, and beside the types that a caller has."""
+    lines = ['#include "kindi.h"', "#include <stdio.h>"]
+    for name in LENGTHS:
+        for number in NUMBERS:
+            lines += [f"#if {name}({number}) != {length(name, number)}", f"#error {name}({number})", "#endif"]
+            lines.append(f"typedef char {name.lower()}_{number}[{name}({number}) == {length(name, number)} ? 1 : -1];")
+        lines += [f"extern uint8_t a_{name.lower()}_{number}[{name}({number})];" for number in kindi.SETS]
+    for number, name in enumerate(STATUSES):
+        lines.append(f"typedef char {name.lower()}[{name} == {number} ? 1 : -1];")
+    lines += ["int main(void)", "{", "    uint32_t status = 0, set;", "    size_t size = 0;", "    int number;",
+              f"    for (set = 0; set < {len(NUMBERS)}; set++) {{", "        number = (int)set;"]
+    for name in LENGTHS:
+        lines += [f'        printf("{name} %u %u\\n", (unsigned)set, (unsigned){name}(set));',
+                  f"        if ({name}(number) != {name}(set) || size > {name}(set + 0))", "            return 1;"]
+    lines += ["    }", "    switch (status) {"]
+    lines += [f"    case {name}:" for name in STATUSES]
+    lines += ["        break;", "    }", "    return status == KINDI_OK ? 0 : 1;", "}", ""]
+    return "\n".join(lines)
 
 
 def test():
-    run(["gcc", "-std=c99", *WARNINGS, "-fsyntax-only", "-x", "c", HEADER])
-    run(["g++", "-std=c++17", *WARNINGS, "-fsyntax-only", "-x", "c++", HEADER])
-    return "the header compiles alone as C99 and as C++17"
+    for language, compiler in LANGUAGES:
+        run([*compiler, *WARNINGS, "-fsyntax-only", "-x", language, HEADER])
+    check(defined_lengths() == set(LENGTHS), f"the header's lengths are {sorted(defined_lengths())}")
+    BUILD.mkdir(parents=True, exist_ok=True)
+    source = BUILD / "lengths.c"
+    source.write_text(program())
+    expected = [f"{name} {number} {length(name, number)}" for number in NUMBERS for name in LENGTHS]
+    for language, compiler in LANGUAGES:
+        out = BUILD / f"lengths_{language}"
+        run([*compiler, "-O1", *WARNINGS, "-I", INCLUDE, "-x", language, source, "-o", out])
+        found = run([out]).splitlines()
+        wrong = [f"{line}, expected {right}" for line, right in zip(found, expected, strict=True) if line != right]
+        check(not wrong, f"{language}: {'; '.join(wrong)}")
+    return f"the header compiles alone as C99 and as C++17; its {len(LENGTHS)} lengths are right in each set"
 
 
 main(test)

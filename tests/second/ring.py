@@ -5,6 +5,7 @@ integers, written from the paper 01 alone in plain integers and lists.
 usage: ring.py    check the two ways of multiplying against each other, and the paper's own examples
 """
 
+import functools
 import random
 import struct
 
@@ -14,11 +15,13 @@ def width(m):
     return len(bin(m)) - len(bin(m).rstrip("0"))
 
 
+@functools.lru_cache(maxsize=2**16)
 def to_bits(value, w):
     """The w low bits of a value as a text of 0 and 1, bit 0 first."""
     return format(value % 2**w, f"0{w}b")[::-1]
 
 
+@functools.lru_cache(maxsize=2**17)
 def from_bits(text):
     """The value of a text of bits, bit 0 first."""
     return int(text[::-1], 2)
@@ -84,7 +87,9 @@ def product(a, b):
 
     if n * max(map(abs, a), default=0) * max(map(abs, b), default=0) >= half:
         raise ValueError("coefficients too large for digits of 64 bits")
-    value = (at_power(a) * at_power(b) + offset) % (2**(64 * n) + 1)
+    # X^n is -1: what stands above it is taken away, by a shift, since a division of such numbers is slow.
+    whole, power = at_power(a) * at_power(b), 64 * n
+    value = ((whole & (2**power - 1)) - (whole >> power) + offset) % (2**power + 1)
     return [digit - half for digit in struct.unpack(f"<{n}Q", value.to_bytes(8 * n, "little"))]
 
 

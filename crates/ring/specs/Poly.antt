@@ -1,7 +1,7 @@
 -- Polynomials with integer coefficients modulo X^n + 1, vectors and matrices of them. Rests on lib.IntN's ℤ.
 use mathlib.Core.Bool.{cond}
 use mathlib.Core.List.{List}
-use Prim.Native.Nat.{ℕ, zero, suc, _+_, _-_}
+use Prim.Native.Nat.{ℕ, zero, suc, _+_, _-_, _*_}
 use lib.Dec.{leb, eqb}
 use lib.IntN.{ℤ, pos, negℤ, _+ℤ_, _-ℤ_, _*ℤ_}
 use lib.ListN.{getD}
@@ -58,3 +58,7 @@ ofInts xs k = getD xs k (pos 0)
 -- The coefficients of a polynomial modulo q, listed.
 unfoldable pub residues : ℕ → ℕ → Poly → List ℕ
 residues q n f = tabulate n (λ k. residue q (f k))
+
+-- Polynomial i of a list that has polynomials of n coefficients one after another.
+abbrev pub parts : ℕ → List ℕ → ℕ → Poly
+parts n xs i x = pos (getD xs (i * n + x) 0)

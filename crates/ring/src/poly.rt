@@ -6,7 +6,7 @@ ghost use lib.ListN.{length};
 ghost use Rattle.hash.specs.Lists.{tabulate};
 ghost use Rattle.ring.specs.Integers.{residue};
 ghost use Rattle.ring.specs.Poly.{ofNats, residues};
-ghost use Rattle.ring.specs.Coefficients.{Factors, withProduct, added, subtracted, centredWords};
+ghost use Rattle.ring.specs.Coefficients.{Factors, withProduct, Vectors, withDot, added, subtracted, centredWords};
 ghost use Rattle.ring.specs.Terms.{addTerm, addFour, doubled};
 
 // A term more, modulo 2^16.
@@ -96,6 +96,21 @@ pub fn multiply_add(acc: &mut [u16], a: &[u16], b: &[u16])
             a[i + 3],
         );
         i += 4;
+    }
+}
+
+// acc + the sum of f_i·s_i over two vectors of m polynomials, one after another.
+pub fn dot_add(acc: &mut [u16], f: &[u16], s: &[u16], m: usize)
+    requires { ⌜ Vectors m (now acc) (now f) (now s) ⌝ }
+    ensures { λ _. ⌜ now (acc .exit) ≡ withDot m (now (acc .entry)) (now (f .entry)) (now (s .entry)) ⌝ }
+{
+    let n = acc.len();
+    let mut at = 0;
+    let mut i = 0;
+    while i < m {
+        multiply_add(acc, &f[at..at + n], &s[at..at + n]);
+        at += n;
+        i += 1;
     }
 }
 

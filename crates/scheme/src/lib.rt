@@ -1,5 +1,13 @@
 // The C interface of the KINDI library. Each call answers by its arguments alone and asks nothing of
 // them: no call has a `requires`.
+mod checks;
+mod encaps;
+mod encrypt;
+mod kem;
+mod keygen;
+mod sizes;
+mod work;
+
 ghost use mathlib.Core.Path.{_≡_};
 ghost use lib.ListN.{length};
 ghost use Rattle.hash.specs.Shake.{shake128, shake256};

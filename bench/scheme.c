@@ -1,0 +1,165 @@
+/*
+ * Times keygen, encrypt and encaps in each parameter set beside portable C that multiplies by a
+ * double-precision transform.
+ */
+#include <stdio.h>
+#include <stdlib.h>
+#include <string.h>
+
+#include "kindi.h"
+#include "kindi_ref.h"
+#include "sets.h"
+#include "timing.h"
+
+#define COUNT(array) (sizeof(array) / sizeof((array)[0]))
+
+/* How many inputs of each call are compared before it is timed. */
+#define INPUTS 4
+
+static uint8_t mu[MOST_SEED], gamma_seed[MOST_SEED], z[MOST_SEED], coins[MOST_COINS], message[MOST_PADDED - 1];
+static uint8_t recipient[MOST_PUBLIC_KEY], work_area[MOST_WORK];
+
+/* All that a call may write. */
+static struct outputs {
+    uint8_t public_key[MOST_PUBLIC_KEY], secret_key[MOST_SECRET_KEY], key[MOST_COINS], ciphertext[MOST_CIPHERTEXT];
+} out;
+
+/* A call that refuses does no work, and a figure of it says nothing. */
+static void accepted(const char *call, uint32_t set, uint32_t answer)
+{
+    if (answer != 0) {
+        fprintf(stderr, "bench: set %lu, %s was refused: %lu\n", (unsigned long)set, call, (unsigned long)answer);
+        exit(1);
+    }
+}
+
+static void ours_keygen(void *arg)
+{
+    uint32_t set = *(const uint32_t *)arg;
+    const struct lengths *len = &set_lengths[set - 1];
+
+    accepted("keygen", set, kindi_keygen(set, mu, len->seed, gamma_seed, len->seed, z, len->seed, out.public_key,
+        len->public_key, out.secret_key, len->secret_key, work_area, len->keygen_work));
+}
+
+static void c_keygen(void *arg)
+{
+    ref_keygen(*(const uint32_t *)arg, mu, gamma_seed, z, out.public_key, out.secret_key);
+}
+
+static void ours_encrypt(void *arg)
+{
+    uint32_t set = *(const uint32_t *)arg;
+    const struct lengths *len = &set_lengths[set - 1];
+
+    accepted("encrypt", set, kindi_encrypt(set, recipient, len->public_key, coins, len->coins, message,
+        len->padded - 1, out.ciphertext, len->ciphertext, work_area, len->encrypt_work));
+}
+
+static void c_encrypt(void *arg)
+{
+    uint32_t set = *(const uint32_t *)arg;
+
+    ref_encrypt(set, recipient, coins, message, set_lengths[set - 1].padded - 1, out.ciphertext);
+}
+
+static void ours_encaps(void *arg)
+{
+    uint32_t set = *(const uint32_t *)arg;
+    const struct lengths *len = &set_lengths[set - 1];
+
+    accepted("encaps", set, kindi_encaps(set, recipient, len->public_key, coins, len->coins, out.key, len->coins,
+        out.ciphertext, len->ciphertext, work_area, len->encaps_work));
+}
+
+static void c_encaps(void *arg)
+{
+    ref_encaps(*(const uint32_t *)arg, recipient, coins, out.key, out.ciphertext);
+}
+
+static const struct call {
+    const char *name;
+    void (*ours)(void *arg), (*c)(void *arg);
+} calls[] = {
+    { "keygen", ours_keygen, c_keygen },
+    { "encrypt, longest message", ours_encrypt, c_encrypt },
+    { "encaps", ours_encaps, c_encaps },
+};
+
+static void fill_bytes(uint8_t *bytes, size_t count, uint32_t seed)
+{
+    size_t i;
+
+    for (i = 0; i < count; i++) {
+        seed = seed * 1664525 + 1013904223;
+        bytes[i] = (uint8_t)(seed >> 24);
+    }
+}
+
+/* Inputs of the set, another for each number. */
+static void fill(uint32_t set, uint32_t number)
+{
+    fill_bytes(mu, sizeof mu, 5 * number);
+    fill_bytes(gamma_seed, sizeof gamma_seed, 5 * number + 1);
+    fill_bytes(z, sizeof z, 5 * number + 2);
+    fill_bytes(coins, sizeof coins, 5 * number + 3);
+    fill_bytes(message, sizeof message, 5 * number + 4);
+    c_keygen(&set);
+    memcpy(recipient, out.public_key, sizeof recipient);
+}
+
+/* A figure of two programs that do different things says nothing. */
+static void check(const struct call *call, uint32_t set)
+{
+    static struct outputs expected;
+
+    memset(&out, 0x5a, sizeof out);
+    call->c(&set);
+    expected = out;
+    memset(&out, 0x5a, sizeof out);
+    call->ours(&set);
+    if (memcmp(&out, &expected, sizeof out) != 0) {
+        fprintf(stderr, "bench: set %lu, %s: ours differs from C\n", (unsigned long)set, call->name);
+        exit(1);
+    }
+}
+
+static void row(const struct call *call, uint32_t set)
+{
+    struct candidate candidates[2];
+    double us[2];
+    char label[64];
+    int i;
+
+    candidates[0].run = call->ours;
+    candidates[1].run = call->c;
+    candidates[0].arg = candidates[1].arg = &set;
+    time_candidates(candidates, 2, us);
+    for (i = 0; i < 2; i++)
+        us[i] /= 1e3;
+    snprintf(label, sizeof label, "set %lu, %s", (unsigned long)set, call->name);
+    table_row(label, us, 2, us[0] / us[1]);
+}
+
+int main(void)
+{
+    static const char *const names[2] = { "ours", "C" };
+    uint32_t set, number;
+    size_t i;
+
+    ref_start();
+    for (set = 1; set <= SETS; set++) {
+        for (number = 0; number < INPUTS; number++) {
+            fill(set, number);
+            for (i = 0; i < COUNT(calls); i++)
+                check(&calls[i], set);
+        }
+    }
+    table_head("microseconds a call of the scheme", names, 2);
+    for (set = 1; set <= SETS; set++) {
+        fill(set, 0);
+        for (i = 0; i < COUNT(calls); i++)
+            row(&calls[i], set);
+    }
+    return 0;
+}

@@ -1,0 +1,13 @@
+-- The laws and theorems of the scheme.
+pub mod Sets
+pub mod Strings
+pub mod Chains
+pub mod Padding
+pub mod Made
+pub mod Remainders
+pub mod Strict
+pub mod Value
+pub mod Rounding
+pub mod Correct
+pub mod Examples
+pub mod Theorems

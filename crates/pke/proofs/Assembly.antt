@@ -1,0 +1,167 @@
+-- The whole ciphertext from the streams in the work area. Assumes nothing.
+use mathlib.Core.Path.{_≡_, refl, sym, ap, ap₂, _∙_}
+use mathlib.Core.Bool.{Bool, true, false, cond}
+use mathlib.Core.List.{List, _++_, append-assoc, append-nil}
+use Prim.Native.Nat.{ℕ, zero, suc, _+_, _-_, _*_, _^_, _≤_, _<_}
+use native.Mathlib.Nat.{mul-suc, mul-le-mul-left, not-suc-le-zero, add-sub-cancel-left, add-assoc, one-mul}
+use native.Mathlib.Omega.{arith}
+use lib.Dec.{eqb, ltb}
+use lib.IntN.{ℤ, pos, _+ℤ_, _*ℤ_}
+use lib.ListN.{length, take, drop, length-take, take-append-drop}
+use lib.Pow.{pow-pos}
+use lib.Seq.{take-at, drop-at, drop-drop}
+use Rattle.hash.specs.Shake.{shake}
+use Rattle.hash.proofs.Laws.{length-shake}
+use Rattle.hash.proofs.Parts.{patched, take-rest}
+use Rattle.ring.specs.Bits.{Below, pack}
+use Rattle.ring.specs.Integers.{centred}
+use Rattle.ring.specs.Poly.{Poly, plus, dot, transposed, unit, parts, residues}
+use Rattle.ring.proofs.Modular.{cong-add, cong-refl, cong-power}
+use Rattle.ring.proofs.Residues.{residues-ext, residues-cong, residues-below, length-residues}
+use Rattle.ring.proofs.Ring.{dot-cong, dot-ext}
+use Rattle.kindi.specs.declared.Params.{Params}
+use Rattle.kindi.specs.Params.{WellFormed, modulus, half, lengthOf, matrixLength, lowLength, paddedLength, highLength, coinsStreamLength}
+use Rattle.kindi.specs.Streams.{coefficient, smallIn, matrixIn, lowIn, firstIn, ephemeralBy, ephemeral, matrix, lowPart, coinsStream}
+use Rattle.kindi.specs.Keys.{joined, stored, matrixSeed}
+use Rattle.kindi.specs.Encrypt.{factorBy, factor, decompressedBy, noiseless, error, masked, ciphertext}
+use Rattle.kindi.proofs.Strings.{coefficient-append, whole-bytes, place-below, shake-below}
+use Rattle.kindi.proofs.Padding.{length-masked, part-below}
+use Rattle.pke.specs.Vectors.{vector}
+use Rattle.pke.specs.Layout.{cipherFrom}
+use Rattle.pke.proofs.Reading.{vector-cong}
+use Rattle.pke.proofs.Joining.{pack-joined}
+use Rattle.pke.proofs.Masks.{drop-past}
+
+joined-ext : (m : ℕ) (f g : ℕ → List ℕ) → ((j : ℕ) → f j ≡ g j) → joined m f ≡ joined m g
+unfolding joined
+joined-ext zero f g e = refl
+joined-ext (suc m) f g e = ap₂ _++_ (joined-ext m f g e) (e m)
+
+joined-first : (m : ℕ) (g : ℕ → List ℕ) → joined (suc m) g ≡ g 0 ++ joined m (λ i. g (suc i))
+unfolding joined
+joined-first zero g = sym (append-nil (g 0))
+joined-first (suc m) g =
+    ap (λ (l : List ℕ). l ++ g (suc m)) (joined-first m g) ∙ append-assoc (g 0) (joined m (λ i. g (suc i))) (g (suc m))
+
+ephemeral-first : (P : Params) (coins high rest : List ℕ) (l : ℕ) → 0 < l
+    → residues 65536 (P .n) (firstIn P coins high) ++ vector (l - 1) (P .n) (smallIn P rest) ≡ vector l (P .n) (ephemeralBy P coins high rest)
+unfolding vector ephemeralBy
+ephemeral-first P coins high rest zero h = absurd (not-suc-le-zero h)
+ephemeral-first P coins high rest (suc l) h =
+    let less : suc l - 1 ≡ l = omega arith in
+    rw less (sym (joined-first l (λ i. residues 65536 (P .n) (ephemeralBy P coins high rest i))))
+
+-- The ciphertext of these strings: the matrix, one that begins with w, the masked message, ones that begin with h and with s_2.
+abbrev cipherOf : Params → List ℕ → List ℕ → List ℕ → List ℕ → List ℕ → List ℕ → List ℕ → List ℕ
+cipherOf P pk coins rows low masked high rest =
+    pack (P .k) (joined (P .l + 1) (λ j. residues (modulus P) (P .n) (plus
+    (dot (P .l) (P .n) (factorBy P pk (matrixIn P rows) (lowIn P low) j) (ephemeralBy P coins high rest)) (smallIn P masked j))))
+
+cipher-ext : (P : Params) (pk coins : List ℕ) {rows rows' low low' masked masked' high high' rest rest' : List ℕ}
+    → rows ≡ rows' → low ≡ low' → masked ≡ masked' → high ≡ high' → rest ≡ rest'
+    → cipherOf P pk coins rows low masked high rest ≡ cipherOf P pk coins rows' low' masked' high' rest'
+cipher-ext P pk coins {rows} {rows'} {low} {low'} {masked} {masked'} {high} {high'} {rest} {rest'} a b c d e =
+    ap₂ (λ (x y : List ℕ). cipherOf P pk coins x y masked high rest) a b
+    ∙ ap₂ (λ (x y : List ℕ). cipherOf P pk coins rows' low' x y rest) c d ∙ ap (λ (x : List ℕ). cipherOf P pk coins rows' low' masked' high' x) e
+
+-- What `assemble` leaves.
+pub assemble-is : (P : Params) → WellFormed P → (pk coins X s dst : List ℕ) (m a k h : ℕ)
+    → m ≡ matrixLength P → a ≡ lowLength P → k ≡ paddedLength P → h ≡ highLength P
+    → s ≡ residues 65536 (P .n) (firstIn P coins (take (length X - (m + a + k)) (drop (m + a + k) X)))
+    ++ vector (P .l - 1) (P .n) (smallIn P (take (length X - (m + a + k + h)) (drop (m + a + k + h) X)))
+    → dst ≡ joined (P .l + 1) (λ j. pack (P .k) (residues (modulus P) (P .n) (plus
+    (dot (P .l) (P .n) (factorBy P pk (matrixIn P (take m X)) (lowIn P (take (length X - m) (drop m X))) j) (parts (P .n) s))
+    (smallIn P (take (m + a + k - (m + a)) (drop (m + a) X)) j))))
+    → dst ≡ cipherFrom P pk coins X
+unfolding cipherFrom
+assemble-is P W pk coins X s dst m a k h em ea ek eh isS isD =
+    let n : ℕ = P .n in
+    let rows : List ℕ = take m X in
+    let low : List ℕ = take (length X - m) (drop m X) in
+    let mid : List ℕ = take (m + a + k - (m + a)) (drop (m + a) X) in
+    let high : List ℕ = take (length X - (m + a + k)) (drop (m + a + k) X) in
+    let rest : List ℕ = take (length X - (m + a + k + h)) (drop (m + a + k + h) X) in
+    let S : ℕ → Poly = ephemeralBy P coins high rest in
+    let isV : s ≡ vector (P .l) n S = isS ∙ ephemeral-first P coins high rest (P .l) (W .some-polynomials) in
+    let F : ℕ → ℕ → Poly = factorBy P pk (matrixIn P rows) (lowIn P low) in
+    let one : (j : ℕ) → residues (modulus P) n (plus (dot (P .l) n (F j) (parts n s)) (smallIn P mid j))
+    ≡ residues (modulus P) n (plus (dot (P .l) n (F j) S) (smallIn P mid j))
+    = λ j. residues-cong (pow-pos (P .k)) n _ _ (λ x l.
+    cong-add
+    (dot-cong (P .l) n (F j) (F j) (parts n s) S (λ i y _ _. cong-refl (F j i y))
+    (λ i y p q. cong-power (P .k) 16 (W .word) (rw isV (vector-cong (P .l) n S i y p q))) l)
+    (cong-refl (smallIn P mid j x))) in
+    let g : ℕ → List ℕ = λ j. residues (modulus P) n (plus (dot (P .l) n (F j) S) (smallIn P mid j)) in
+    let whole : P .k * n ≡ 8 * lengthOf P 1 (P .k) = ap (λ (i : ℕ). P .k * i) (sym (one-mul n)) ∙ whole-bytes P W 1 (P .k) in
+    isD ∙ joined-ext (P .l + 1) _ _ (λ j. ap (pack (P .k)) (one j))
+    ∙ sym (pack-joined (P .k) n (lengthOf P 1 (P .k)) (P .l + 1) g whole (λ j _. length-residues (modulus P) n _) (λ j _. residues-below (pow-pos (P .k)) n _))
+    ∙ cipher-ext P pk coins (ap (λ (i : ℕ). take i X) em) (take-rest m X ∙ ap (λ (i : ℕ). drop i X) em)
+    (ap (λ (i : ℕ). take i (drop (m + a) X)) (add-sub-cancel-left (m + a) k) ∙ ap₂ (λ (i j : ℕ). take i (drop j X)) ek (ap₂ _+_ em ea))
+    (take-rest (m + a + k) X ∙ ap (λ (i : ℕ). drop i X) (ap₂ _+_ (ap₂ _+_ em ea) ek))
+    (take-rest (m + a + k + h) X ∙ ap (λ (i : ℕ). drop i X) (ap₂ _+_ (ap₂ _+_ (ap₂ _+_ em ea) ek) eh))
+
+-- ---- the streams as `expand` leaves them
+
+-- The low parts do not reach the masked message.
+low-there : (P : Params) → WellFormed P → (S rest : List ℕ) → Below 256 S → lowLength P ≤ length S
+    → (i x : ℕ) → i < P .l → x < P .n → lowIn P (take (lowLength P) S ++ rest) i x ≡ lowIn P S i x
+low-there P W S rest below long i x h l =
+    let first : List ℕ = take (lowLength P) S in
+    let size : length first ≡ lowLength P = simp length-take (omega arith) in
+    let room : P .t * (i * P .n + x) + P .t ≤ 8 * length first
+    = rw (size, sym (whole-bytes P W (P .l) (P .t))) (rw (sym (mul-suc (P .t) (i * P .n + x))) (mul-le-mul-left (P .t) (place-below h l))) in
+    let bytes : Below 256 first = part-below 256 0 (lowLength P) S (pow-pos 8) below in
+    ap (centred (2 ^ (P .t - 1)))
+    (coefficient-append (P .t) (P .n) first rest i x bytes room
+    ∙ sym (ap (λ (b : List ℕ). coefficient (P .t) (P .n) b i x) (sym (take-append-drop (lowLength P) S))
+    ∙ coefficient-append (P .t) (P .n) first (drop (lowLength P) S) i x bytes room))
+
+factor-ext : (P : Params) (pk : List ℕ) (A : ℕ → ℕ → Poly) (w w' : ℕ → Poly) (j i x : ℕ) (b : Bool) → w i x ≡ w' i x
+    → cond b (transposed A j) (decompressedBy P pk w) i x ≡ cond b (transposed A j) (decompressedBy P pk w') i x
+factor-ext P pk A w w' j i x true e = refl
+factor-ext P pk A w w' j i x false e =
+    ap (λ (v : ℤ). (pos (2 ^ P .t * stored P pk i x) +ℤ v) +ℤ cond (eqb i 0) (pos (half P) *ℤ unit x) (pos 0)) e
+
+length-stream : (P : Params) (coins : List ℕ) → length (coinsStream P coins) ≡ coinsStreamLength P
+unfolding coinsStream
+length-stream P coins = length-shake (P .rate) coins (coinsStreamLength P)
+
+stream-below : (P : Params) (coins : List ℕ) → Below 256 (coinsStream P coins)
+unfolding coinsStream
+stream-below P coins = shake-below (P .rate) coins (coinsStreamLength P)
+
+-- The streams give the ciphertext.
+pub encrypt-is : (P : Params) → WellFormed P → (pk coins message : List ℕ)
+    → cipherFrom P pk coins (shake (P .rate) (matrixSeed P pk) (matrixLength P)
+    ++ patched (lowLength P) (paddedLength P) (masked P coins message) (coinsStream P coins))
+    ≡ ciphertext P pk coins message
+unfolding cipherFrom ciphertext noiseless error factor ephemeral matrix lowPart
+encrypt-is P W pk coins message =
+    let M : ℕ = matrixLength P in
+    let L : ℕ = lowLength P in
+    let K : ℕ = paddedLength P in
+    let H : ℕ = highLength P in
+    let A : List ℕ = shake (P .rate) (matrixSeed P pk) M in
+    let S : List ℕ = coinsStream P coins in
+    let U : List ℕ = masked P coins message in
+    let Z : List ℕ = patched L K U S in
+    let R : List ℕ = drop K (drop L S) in
+    let E : ℕ → Poly = ephemeralBy P coins (drop (L + K) S) (drop (L + (K + H)) S) in
+    let la : length A ≡ M = length-shake (P .rate) (matrixSeed P pk) M in
+    let ls : length S ≡ coinsStreamLength P = length-stream P coins in
+    let lw : length (take L S) ≡ L = simp length-take (omega arith) in
+    let tail : drop L Z ≡ U ++ R = drop-at (take L S) (U ++ R) L lw in
+    let mid : take K (drop (M + L) (A ++ Z)) ≡ U
+    = ap (take K) (drop-past M L A Z la ∙ tail) ∙ take-at U R K (length-masked P coins message) in
+    let high : drop (M + L + K) (A ++ Z) ≡ drop (L + K) S
+    = ap (λ (i : ℕ). drop i (A ++ Z)) (add-assoc M L K) ∙ drop-past M (L + K) A Z la ∙ sym (drop-drop K L Z) ∙ ap (drop K) tail
+    ∙ drop-at U R K (length-masked P coins message) ∙ drop-drop K L S in
+    let rest : drop (M + L + K + H) (A ++ Z) ≡ drop (L + (K + H)) S
+    = sym (drop-drop H (M + L + K) (A ++ Z)) ∙ ap (drop H) high ∙ drop-drop H (L + K) S ∙ ap (λ (i : ℕ). drop i S) (add-assoc L K H) in
+    let same : (i x : ℕ) → i < P .l → x < P .n → lowIn P Z i x ≡ lowIn P S i x
+    = low-there P W S (U ++ R) (stream-below P coins) (omega arith) in
+    cipher-ext P pk coins (take-at A Z M la) (drop-at A Z M la) mid high rest
+    ∙ ap (pack (P .k)) (joined-ext (P .l + 1) _ _ (λ j. residues-ext (modulus P) (P .n) _ _ (λ x h.
+    ap (λ (v : ℤ). v +ℤ smallIn P U j x)
+    (dot-ext (P .l) (P .n) (factorBy P pk (matrixIn P A) (lowIn P Z) j) (factorBy P pk (matrixIn P A) (lowIn P S) j) E E
+    (λ i y p q. factor-ext P pk (matrixIn P A) (lowIn P Z) (lowIn P S) j i y (ltb j (P .l)) (same i y p q)) (λ i y _ _. refl) h))))

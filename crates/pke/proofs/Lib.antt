@@ -1,0 +1,10 @@
+-- The laws that the proofs of `pke` share.
+pub mod Amounts
+pub mod Reading
+pub mod Sums
+pub mod Joining
+pub mod Masks
+pub mod Terms
+pub mod Cipher
+pub mod Assembly
+pub mod Made

@@ -1,0 +1,250 @@
+-- Laws of the stored polynomials of a key: compressed values, one polynomial after another, and both keys. Assumes nothing.
+use mathlib.Core.Path.{_≡_, refl, sym, ap, ap₂, _∙_}
+use mathlib.Core.List.{List, [], _∷_, _++_, map, append-assoc}
+use Prim.Native.Nat.{ℕ, zero, suc, _+_, _-_, _*_, _/_, _^_, _≤_, _<_}
+use native.Mathlib.Nat.{add-zero, one-mul, mod-eq-of-lt, add-sub-cancel-left, mul-le-mul-right, suc-mul}
+use native.Mathlib.Omega.{arith}
+use lib.IntN.{_+ℤ_}
+use lib.ListN.{length, take, drop, length-map, length-take, length-drop, length-append}
+use lib.Seq.{take-at, drop-at}
+use lib.Pow.{pow-pos, shr-lt}
+use Rattle.hash.specs.Shake.{shake}
+use Rattle.hash.proofs.Parts.{patched, length-patched, take-patched, patched-rest, take-rest}
+use Rattle.hash.proofs.Laws.{length-shake}
+use Rattle.ring.specs.Bits.{Below, pack, unpack, lowBits}
+use Rattle.ring.specs.Integers.{Cong, centred}
+use Rattle.ring.specs.Poly.{Poly, dot, parts, residues}
+use Rattle.ring.specs.Coefficients.{centredWords}
+use Rattle.ring.proofs.Digits.{lowBits-below}
+use Rattle.ring.proofs.Modular.{cong-trans, cong-of-eq}
+use Rattle.ring.proofs.Residues.{residues-ext, residues-below, length-residues}
+use Rattle.kindi.specs.declared.Params.{Params}
+use Rattle.kindi.specs.Params.{WellFormed, modulus, width, lengthOf, matrixLength, secretsLength, storedLength, keygenWork}
+use Rattle.kindi.specs.Streams.{coefficient, matrixIn, smallIn, matrix, keySecret}
+use Rattle.kindi.specs.Keys.{compress, joined, publicBy, public, publicKey, secretKey}
+use Rattle.kindi.proofs.Strings.{length-joined, length-pack, whole-bytes}
+use Rattle.pke.specs.Vectors.{vector, sumPart}
+use Rattle.pke.specs.Layout.{storedFrom}
+use Rattle.pke.proofs.Amounts.{length-add, length-le, fills}
+use Rattle.pke.proofs.Reading.{small-vector, plain-vector, vector-cong, coefficient-drop}
+use Rattle.pke.proofs.Sums.{sum-low}
+use Rattle.pke.proofs.Joining.{pack-joined}
+
+-- ---- compressed values
+
+-- Values below 2^w are their low w bits.
+low-same : (w : ℕ) (xs : List ℕ) → Below (2 ^ w) xs → lowBits w xs ≡ xs
+unfolding lowBits
+low-same w [] below = refl
+low-same w (x ∷ xs) below = ap₂ _∷_ (mod-eq-of-lt (below zero)) (low-same w xs (λ i. below (suc i)))
+
+-- Values of k bits have k − t bits once compressed.
+compressed-below : (k t : ℕ) (xs : List ℕ) → t ≤ k → Below (2 ^ k) xs → Below (2 ^ (k - t)) (map (compress t) xs)
+compressed-below k t [] h below i = pow-pos (k - t)
+compressed-below k t (x ∷ xs) h below zero =
+    let whole : k - t + t ≡ k = omega arith in
+    shr-lt (k - t) t (rw whole (below zero))
+compressed-below k t (x ∷ xs) h below (suc i) = compressed-below k t xs h (λ j. below (suc j)) i
+
+-- So packing keeps them whole: the steps from a sum to its bytes.
+pub packed-sum : (k t : ℕ) → t ≤ k → (xs : List ℕ) {sum low high bytes : List ℕ} → sum ≡ xs → low ≡ lowBits k sum → high ≡ map (compress t) low
+    → bytes ≡ pack (k - t) (lowBits (k - t) high) → bytes ≡ pack (k - t) (map (compress t) (lowBits k xs))
+packed-sum k t h xs es el eh eb =
+    let made = eh ∙ ap (map (compress t)) (el ∙ ap (lowBits k) es) in
+    eb ∙ ap (λ (ys : List ℕ). pack (k - t) (lowBits (k - t) ys)) made
+    ∙ ap (pack (k - t)) (low-same (k - t) _ (compressed-below k t (lowBits k xs) h (lowBits-below k xs)))
+
+-- ---- one stored polynomial
+
+-- Polynomial i of b modulo q, compressed.
+abbrev pub compressedPart : Params → (ℕ → ℕ → Poly) → (ℕ → Poly) → ℕ → List ℕ
+compressedPart P A r i = map (compress (P .t)) (residues (modulus P) (P .n) (publicBy P A r i))
+
+-- The same from the streams, in k − t bits.
+abbrev pub storedPart : Params → List ℕ → List ℕ → ℕ → List ℕ
+storedPart P rows secrets i = pack (P .k - P .t) (compressedPart P (matrixIn P rows) (smallIn P secrets) i)
+
+-- It has n coefficients.
+length-compressed : (P : Params) (A : ℕ → ℕ → Poly) (r : ℕ → Poly) (i : ℕ) → length (compressedPart P A r i) ≡ P .n
+length-compressed P A r i =
+    length-map (residues (modulus P) (P .n) (publicBy P A r i)) (compress (P .t)) ∙ length-residues (modulus P) (P .n) (publicBy P A r i)
+
+-- The first i stored polynomials, in bytes.
+pub length-parts : (P : Params) → WellFormed P → (rows secrets : List ℕ) (i : ℕ)
+    → length (joined i (storedPart P rows secrets)) ≡ lengthOf P i (P .k - P .t)
+unfolding lengthOf
+length-parts P W rows secrets i =
+    let w : ℕ = P .k - P .t in
+    let each : (j : ℕ) → length (storedPart P rows secrets j) ≡ lengthOf P 1 w
+    = λ j. length-pack w (compressedPart P (matrixIn P rows) (smallIn P secrets) j) ∙ sym (fills P W w (length-compressed P (matrixIn P rows) (smallIn P secrets) j) refl) in
+    length-joined i (lengthOf P 1 w) (storedPart P rows secrets) (λ j _. each j) ∙ ap (λ (m : ℕ). i * m) (one-mul (P .n / 8 * w))
+
+-- a polynomials and then b lie within m.
+inside : (P : Params) (w a b : ℕ) {m : ℕ} → a + b ≤ m → lengthOf P a w + lengthOf P b w ≤ lengthOf P m w
+inside P w a b h = rw (← length-add P a b w) (length-le P w h)
+
+-- Row i of the matrix, errors i and stored polynomial i lie within their strings.
+pub row-inside : (P : Params) {i : ℕ} → i < P .l → lengthOf P (i * P .l) (P .k) + lengthOf P (P .l) (P .k) ≤ matrixLength P
+row-inside P {i} h = inside P (P .k) (i * P .l) (P .l) (omega (arith, mul-le-mul-right (P .l) h, suc-mul i (P .l)))
+
+pub errors-inside : (P : Params) {i : ℕ} → i < P .l → lengthOf P (P .l + i) (width P) + lengthOf P 1 (width P) ≤ secretsLength P
+errors-inside P {i} h = inside P (width P) (P .l + i) 1 (omega arith)
+
+pub part-inside : (P : Params) {i : ℕ} → i < P .l → lengthOf P i (P .k - P .t) + lengthOf P 1 (P .k - P .t) ≤ storedLength P
+part-inside P {i} h = inside P (P .k - P .t) i 1 (omega arith)
+
+-- The place after a polynomials and then b.
+pub length-more : (P : Params) (w a b : ℕ) {m x y : ℕ} → a + b ≡ m → x ≡ lengthOf P a w → y ≡ lengthOf P b w → x + y ≡ lengthOf P m w
+length-more P w a b e ex ey = ap₂ _+_ ex ey ∙ sym (length-add P a b w) ∙ ap (λ (z : ℕ). lengthOf P z w) e
+
+-- What public_part leaves is stored polynomial i, where the vectors hold row i and r.
+pub part-made : (P : Params) → WellFormed P → (rows secrets : List ℕ) → Below 256 rows → Below 256 secrets → (i a b : ℕ) {N : ℕ} {f r ys : List ℕ}
+    → a ≡ lengthOf P (i * P .l) (P .k) → b ≡ lengthOf P (P .l + i) (width P) → N ≡ P .l * P .n
+    → f ≡ unpack (P .k) N (take (length rows - a) (drop a rows)) → r ≡ vector (P .l) (P .n) (smallIn P secrets)
+    → ys ≡ pack (P .k - P .t) (map (compress (P .t)) (lowBits (P .k) (sumPart P (take (length secrets - b) (drop b secrets)) f r)))
+    → ys ≡ storedPart P rows secrets i
+part-made P W rows secrets bytes bytes' i a b {N} {f} {r} ea eb eN ef er ey =
+    let errors : List ℕ = drop (lengthOf P (P .l + i) (width P)) secrets in
+    let same : take (length secrets - b) (drop b secrets) ≡ errors = take-rest b secrets ∙ ap (λ (m : ℕ). drop m secrets) eb in
+    let row : f ≡ unpack (P .k) (P .l * P .n) (drop (lengthOf P (i * P .l) (P .k)) rows)
+    = ef ∙ ap₂ (unpack (P .k)) eN (take-rest a rows ∙ ap (λ (m : ℕ). drop m rows) ea) in
+    let held : (xs : List ℕ) (F : ℕ → Poly) → xs ≡ vector (P .l) (P .n) F → (j x : ℕ) → j < P .l → x < P .n → Cong 65536 (parts (P .n) xs j x) (F j x)
+    = λ xs F e j x h l. cong-trans (cong-of-eq (ap (λ (ys : List ℕ). parts (P .n) ys j x) e)) (vector-cong (P .l) (P .n) F j x h l) in
+    ey ∙ ap (λ (xs : List ℕ). pack (P .k - P .t) (map (compress (P .t)) xs))
+    (ap (λ (l : List ℕ). lowBits (P .k) (sumPart P l f r)) same
+    ∙ sum-low P W errors f r (matrixIn P rows i) (smallIn P secrets)
+    (held f (matrixIn P rows i) (row ∙ plain-vector P W (P .l) (P .k) (i * P .l) rows (W .word) bytes)) (held r (smallIn P secrets) er)
+    ∙ residues-ext (modulus P) (P .n) _ _ (λ x h.
+    ap (λ (v : ℕ). dot (P .l) (P .n) (matrixIn P rows i) (smallIn P secrets) x +ℤ centred (P .p) v)
+    (coefficient-drop P W (width P) (P .l + i) 0 x secrets bytes' ∙ ap (λ (m : ℕ). coefficient (width P) (P .n) secrets m x) (add-zero (P .l + i)))))
+
+-- What small leaves is r.
+pub secret-held : (P : Params) (secrets : List ℕ) {w N : ℕ} {r : List ℕ} → w ≡ width P → N ≡ P .l * P .n
+    → r ≡ centredWords (P .p) (unpack w N secrets) → r ≡ vector (P .l) (P .n) (smallIn P secrets)
+secret-held P secrets ew en e =
+    e ∙ ap₂ (λ (v m : ℕ). centredWords (P .p) (unpack v m secrets)) ew en ∙ small-vector (P .l) (P .n) (width P) (P .p) secrets
+
+-- ---- parts of slices
+
+-- The length of a part from a on, and of one of k entries.
+pub rest-long : (a : ℕ) (xs : List ℕ) {m : ℕ} → a + m ≤ length xs → m ≤ length (take (length xs - a) (drop a xs))
+rest-long a xs h = rw (take-rest a xs) (simp length-drop (omega arith))
+
+pub rest-is : (a k : ℕ) (xs : List ℕ) → a + k ≡ length xs → length (take (length xs - a) (drop a xs)) ≡ k
+rest-is a k xs e = ap length (take-rest a xs) ∙ simp length-drop (omega arith)
+
+pub part-long : (a k : ℕ) (xs : List ℕ) → a + k ≤ length xs → length (take (a + k - a) (drop a xs)) ≡ k
+part-long a k xs h = simp (length-take, length-drop) (omega arith)
+
+-- A part that has come back as long as it was leaves the slice as long as it was: k entries from a on, all from a on, the first a,
+-- and k entries after the first a.
+pub same-long : (a k : ℕ) (ys xs : List ℕ) → a + k ≤ length xs → length ys ≡ length (take (a + k - a) (drop a xs))
+    → length (patched a (a + k - a) ys xs) ≡ length xs
+same-long a k ys xs h e =
+    let long : a + k - a ≡ k = omega arith in
+    length-patched a (a + k - a) ys xs (e ∙ part-long a k xs h ∙ sym long) (omega arith)
+
+pub rest-same : (a : ℕ) (ys xs : List ℕ) → a ≤ length xs → length ys ≡ length (take (length xs - a) (drop a xs))
+    → length (patched a (length xs - a) ys xs) ≡ length xs
+rest-same a ys xs h e =
+    let long : length ys ≡ length xs - a = e ∙ ap length (take-rest a xs) ∙ length-drop a xs in
+    ap length (patched-rest a ys xs) ∙ simp (length-append, length-take, long) (omega arith)
+
+pub first-same : (a : ℕ) (ys xs : List ℕ) → length ys ≡ length (take a xs) → length (ys ++ drop a xs) ≡ length xs
+first-same a ys xs e = simp (length-append, e, length-take, length-drop) (omega arith)
+
+pub next-same : (a k : ℕ) (ys zs xs : List ℕ) → a + k ≤ length xs → length ys ≡ length (take a xs)
+    → length zs ≡ length (take (a + k - a) (drop a (ys ++ drop a xs))) → length (patched a (a + k - a) zs (ys ++ drop a xs)) ≡ length xs
+next-same a k ys zs xs h e l =
+    let first : length (ys ++ drop a xs) ≡ length xs = first-same a ys xs e in
+    same-long a k zs (ys ++ drop a xs) (rw first h) l ∙ first
+
+-- The first a entries and then the rest, or the next k.
+pub then-rest : (a : ℕ) (xs ys zs : List ℕ) → length ys ≡ a → patched a (length (ys ++ drop a xs) - a) zs (ys ++ drop a xs) ≡ ys ++ zs
+then-rest a xs ys zs e = patched-rest a zs (ys ++ drop a xs) ∙ ap (λ (l : List ℕ). l ++ zs) (take-at ys (drop a xs) a e)
+
+then-next : (a k : ℕ) (xs ys zs : List ℕ) → length ys ≡ a → length zs ≡ k → a + k ≤ length xs
+    → take (a + k) (patched a (a + k - a) zs (ys ++ drop a xs)) ≡ ys ++ zs
+then-next a k xs ys zs e l h =
+    let room : a + k ≤ length (ys ++ drop a xs) = simp (length-append, length-drop, e) (omega arith) in
+    ap (λ (j : ℕ). take (a + k) (patched a j zs (ys ++ drop a xs))) (add-sub-cancel-left a k) ∙ take-patched a k zs (ys ++ drop a xs) l room
+    ∙ ap (λ (t : List ℕ). t ++ zs) (take-at ys (drop a xs) a e)
+
+-- Nothing is there yet.
+pub joined-none : (g : ℕ → List ℕ) (xs : List ℕ) → xs ≡ joined 0 g ++ xs
+unfolding joined
+joined-none g xs = refl
+
+-- ---- all of them
+
+-- The stored polynomials may be packed one by one.
+stored-joined : (P : Params) → WellFormed P → (streams : List ℕ)
+    → joined (P .l) (storedPart P (take (matrixLength P) streams) (drop (matrixLength P) streams)) ≡ storedFrom P streams
+unfolding storedFrom
+stored-joined P W streams =
+    let A : ℕ → ℕ → Poly = matrixIn P (take (matrixLength P) streams) in
+    let r : ℕ → Poly = smallIn P (drop (matrixLength P) streams) in
+    let w : ℕ = P .k - P .t in
+    sym (pack-joined w (P .n) (lengthOf P 1 w) (P .l) (compressedPart P A r)
+    (ap (λ (n : ℕ). w * n) (sym (one-mul (P .n))) ∙ whole-bytes P W 1 w)
+    (λ j _. length-compressed P A r j)
+    (λ j _. compressed-below (P .k) (P .t) (residues (modulus P) (P .n) (publicBy P A r j)) (omega (arith, W .kept)) (residues-below (pow-pos (P .k)) (P .n) (publicBy P A r j))))
+
+-- So they are where the streams lie one after the other.
+pub stored-made : (P : Params) → WellFormed P → (streams : List ℕ) (m : ℕ) {ys : List ℕ} → m ≡ matrixLength P
+    → ys ≡ joined (P .l) (storedPart P (take m streams) (take (length streams - m) (drop m streams))) → ys ≡ storedFrom P streams
+stored-made P W streams m e ey =
+    ey
+    ∙ ap₂ (λ (rows secrets : List ℕ). joined (P .l) (storedPart P rows secrets)) (ap (λ (a : ℕ). take a streams) e)
+    (take-rest m streams ∙ ap (λ (a : ℕ). drop a streams) e)
+    ∙ stored-joined P W streams
+
+-- ---- keys
+
+-- The streams of μ and γ, one after the other.
+abbrev pub keyStreams : Params → List ℕ → List ℕ → List ℕ
+keyStreams P μ γ = shake (P .rate) μ (matrixLength P) ++ shake (P .rate) γ (secretsLength P)
+
+-- Their length is that of the work area.
+pub streams-long : (P : Params) (μ γ : List ℕ) → length (keyStreams P μ γ) ≡ keygenWork P
+streams-long P μ γ =
+    length-append (shake (P .rate) μ (matrixLength P)) (shake (P .rate) γ (secretsLength P))
+    ∙ ap₂ _+_ (length-shake (P .rate) μ (matrixLength P)) (length-shake (P .rate) γ (secretsLength P))
+
+-- They are there once both parts of the work area are written.
+pub streams-made : (P : Params) (work μ γ : List ℕ) {m s : ℕ} {first second : List ℕ} → m ≡ matrixLength P → s ≡ secretsLength P → m + s ≤ length work
+    → first ≡ shake (P .rate) μ (length (take m work))
+    → second ≡ shake (P .rate) γ (length (take (m + s - m) (drop m (first ++ drop m work))))
+    → take (m + s) (patched m (m + s - m) second (first ++ drop m work)) ≡ keyStreams P μ γ
+streams-made P work μ γ {m} {s} {first} {second} em es room e1 e2 =
+    let long1 : length (take m work) ≡ m = simp length-take (omega arith) in
+    let first-long : length first ≡ m = ap length e1 ∙ length-shake (P .rate) μ (length (take m work)) ∙ long1 in
+    let both : length (first ++ drop m work) ≡ length work = first-same m first work (first-long ∙ sym long1) in
+    let long2 : length (take (m + s - m) (drop m (first ++ drop m work))) ≡ s = part-long m s (first ++ drop m work) (rw both room) in
+    let second-long : length second ≡ s = ap length e2 ∙ length-shake (P .rate) γ _ ∙ long2 in
+    then-next m s work first second first-long second-long room
+    ∙ ap₂ _++_ (e1 ∙ ap (shake (P .rate) μ) (long1 ∙ em)) (e2 ∙ ap (shake (P .rate) γ) (long2 ∙ es))
+
+-- With μ after them, the stored polynomials of these streams are the public key.
+key-made : (P : Params) (μ γ streams : List ℕ) → streams ≡ keyStreams P μ γ → storedFrom P streams ++ μ ≡ publicKey P μ γ
+unfolding storedFrom publicKey public matrix keySecret
+key-made P μ γ streams e =
+    let rows : List ℕ = shake (P .rate) μ (matrixLength P) in
+    let secrets : List ℕ = shake (P .rate) γ (secretsLength P) in
+    let long : length rows ≡ matrixLength P = length-shake (P .rate) μ (matrixLength P) in
+    let first : take (matrixLength P) streams ≡ rows = ap (take (matrixLength P)) e ∙ take-at rows secrets (matrixLength P) long in
+    let second : drop (matrixLength P) streams ≡ secrets = ap (drop (matrixLength P)) e ∙ drop-at rows secrets (matrixLength P) long in
+    ap₂ (λ (a b : List ℕ). pack (P .k - P .t) (joined (P .l) (compressedPart P (matrixIn P a) (smallIn P b))) ++ μ) first second
+
+-- Both keys, written part by part.
+pub public-made : (P : Params) (μ γ pk streams : List ℕ) {n : ℕ} {stored seed : List ℕ} → length stored ≡ n → streams ≡ keyStreams P μ γ
+    → stored ≡ storedFrom P streams → seed ≡ μ → patched n (length (stored ++ drop n pk) - n) seed (stored ++ drop n pk) ≡ publicKey P μ γ
+public-made P μ γ pk streams {n} {stored} {seed} long e es eμ = then-rest n pk stored seed long ∙ ap₂ _++_ es eμ ∙ key-made P μ γ streams e
+
+pub secret-made : (P : Params) (μ γ z sk : List ℕ) (a k : ℕ) {pk g y : List ℕ} → length pk ≡ a → length g ≡ k → a + k ≤ length sk
+    → pk ≡ publicKey P μ γ → g ≡ γ → y ≡ z
+    → patched (a + k) (length (patched a (a + k - a) g (pk ++ drop a sk)) - (a + k)) y (patched a (a + k - a) g (pk ++ drop a sk)) ≡ secretKey P μ γ z
+unfolding secretKey
+secret-made P μ γ z sk a k {pk} {g} {y} l m h e eg ez =
+    patched-rest (a + k) y (patched a (a + k - a) g (pk ++ drop a sk))
+    ∙ ap (λ (t : List ℕ). t ++ y) (then-next a k sk pk g l m h) ∙ append-assoc pk g y ∙ ap₂ _++_ e (ap₂ _++_ eg ez)

@@ -1,0 +1,271 @@
+-- `pke::encrypt::cipher_parts` meets its contract: after j turns the first j polynomials of the ciphertext are there.
+-- Assumes nothing.
+use Rattle.pke.proofs.Cipher.{reduced, part-is, length-reduced-all}
+use Rattle.pke.proofs.Joining.{joined-turn, joined-end}
+use Rattle.pke.proofs.Amounts.{within, length-add, length-none, length-bound, width-bound, part-length}
+use Rattle.kindi.specs.Params.{modulus, width, lengthOf, paddedLength, ciphertextLength}
+use Rattle.kindi.specs.Streams.{matrixIn, lowIn, smallIn}
+use Rattle.kindi.specs.Encrypt.{factorBy}
+use Rattle.kindi.specs.Keys.{joined}
+use Rattle.ring.proofs.Filling.{turn-less}
+use Rattle.ring.proofs.Modular.{cong-refl}
+use Rattle.ring.specs.Poly.{Poly, parts, plus, dot, residues}
+use Rattle.ring.specs.Bits.{pack, Below}
+use Rattle.hash.proofs.Parts.{take-rest}
+use lib.ListN.{length, drop, length-drop}
+use Prim.Native.Nat.{ℕ, _+_, _-_, _≤_}
+use denote.Ref.{now}
+use borrow.Rule.Slice.PartMut.{same-len-mid}
+use native.Mathlib.Omega.{arith}
+use mathlib.Core.List.{List, _++_}
+use mathlib.Core.Path.{_≡_, refl, sym, ap, ap₂, _∙_}
+use Rattle.pke.proofs.encrypt.cipher_parts.Statement.{statement}
+use Rattle.pke.proofs.encrypt.cipher_parts.Tie as tie
+
+abbrev Inv-loop : tie.InvT-loop
+Inv-loop p pk rows low masked s f₀ acc₀ dst₀ error part error-at₀ at₀ j₀ f acc dst error-at at j =
+    (j ≤ p .l + 1) × (error-at ≡ lengthOf p j (width p)) × (at ≡ lengthOf p j (p .k)) × (length f ≡ length f₀) × (length acc ≡ length acc₀) × (length dst ≡ length dst₀)
+    × (dst ≡ joined j (λ i. pack (p .k) (reduced p (factorBy p pk (matrixIn p rows) (lowIn p low)) (parts (p .n) s) (smallIn p masked) i)) ++ drop at dst₀)
+
+abbrev μ-loop : tie.MeasureT-loop
+μ-loop p pk rows low masked s f₀ acc₀ dst₀ error part error-at₀ at₀ j₀ f acc dst error-at at j = p .l + 1 - j
+
+width-requires : tie.Need-width-requires Inv-loop μ-loop
+width-requires c κs = c .before .before .before .before .before .before .before .before .pre .factors .room .well
+
+length-of-requires : tie.Need-length-of-requires Inv-loop μ-loop
+length-of-requires c κs =
+    let W = c .before .before .before .before .before .before .before .before .before .pre .factors .room .well in
+    (W, omega arith, rw (c .width .ensures) (width-bound _ W))
+
+length-of-requires-2 : tie.Need-length-of-requires-2 Inv-loop μ-loop
+length-of-requires-2 c κs =
+    let W = c .before .before .before .before .before .before .before .before .before .before .pre .factors .room .well in
+    (W, omega arith, W .word)
+
+loop-holds : tie.Need-loop-holds Inv-loop μ-loop
+unfolding joined
+loop-holds c =
+    let p = c .before .before .before .before .before .before .before .before .before .before .before .args .p in
+    (omega arith, sym (length-none p (width p)), sym (length-none p (p .k)), refl, refl, refl, refl)
+
+add-if1 : tie.Need-add-if1 Inv-loop μ-loop
+add-if1 c = omega (arith, c .before .before .before .before .before .before .before .before .before .before .before .before .before .pre .factors .room .well .few)
+
+factor-requires : tie.Need-factor-requires Inv-loop μ-loop
+factor-requires c κs =
+    let pre = c .before .before .before .before .before .before .before .before .before .before .before .before .before .before .before .pre in
+    let h = c .before .before .before .loop in
+    record { room = record { well = pre .factors .room .well; stored-there = pre .factors .room .stored-there; low-there = pre .factors .room .low-there; vector-long = h .inv .3 ∙ pre .factors .room .vector-long }; rows-long = pre .factors .rows-long }
+
+sub-cipher-part : tie.Need-sub-cipher-part Inv-loop μ-loop
+sub-cipher-part c =
+    let a = c .before .before .before .before .before .before .before .before .before .before .before .before .before .before .before .before .before .before .args in
+    let p = a .p in
+    let pre = c .before .before .before .before .before .before .before .before .before .before .before .before .before .before .before .before .before .before .pre in
+    let W = pre .factors .room .well in
+    let h = c .before .before .before .before .before .before .loop in
+    let fits : lengthOf p (h .j) (width p) + lengthOf p 1 (width p) ≤ paddedLength p = within p (width p) (omega arith) in
+    let inside : lengthOf p (h .j) (p .k) + lengthOf p 1 (p .k) ≤ ciphertextLength p = within p (p .k) (omega arith) in
+    let error = c .before .before .before .before .before .before .before .before .length-of .ensures .0 ∙ ap (lengthOf p 1) (c .before .before .before .before .before .before .before .before .before .width .ensures) in
+    let part = c .before .before .before .before .before .before .before .length-of2 .ensures .0 in
+    let small : ciphertextLength p ≤ 65536 = length-bound p W (omega (arith, W .few)) (W .word) in
+    let little : paddedLength p ≤ 65536 = length-bound p W (omega (arith, W .few)) (width-bound p W) in
+    omega (arith, fits, inside, error, part, small, little, h .inv .1, h .inv .2, h .inv .5, pre .masked-long, pre .cipher-long)
+
+part-cipher-part-start : tie.Need-part-cipher-part-start Inv-loop μ-loop
+part-cipher-part-start c =
+    let a = c .before .before .before .before .before .before .before .before .before .before .before .before .before .before .before .before .before .before .args in
+    let p = a .p in
+    let pre = c .before .before .before .before .before .before .before .before .before .before .before .before .before .before .before .before .before .before .pre in
+    let W = pre .factors .room .well in
+    let h = c .before .before .before .before .before .before .loop in
+    let fits : lengthOf p (h .j) (width p) + lengthOf p 1 (width p) ≤ paddedLength p = within p (width p) (omega arith) in
+    let inside : lengthOf p (h .j) (p .k) + lengthOf p 1 (p .k) ≤ ciphertextLength p = within p (p .k) (omega arith) in
+    let error = c .before .before .before .before .before .before .before .before .length-of .ensures .0 ∙ ap (lengthOf p 1) (c .before .before .before .before .before .before .before .before .before .width .ensures) in
+    let part = c .before .before .before .before .before .before .before .length-of2 .ensures .0 in
+    let small : ciphertextLength p ≤ 65536 = length-bound p W (omega (arith, W .few)) (W .word) in
+    let little : paddedLength p ≤ 65536 = length-bound p W (omega (arith, W .few)) (width-bound p W) in
+    omega (arith, fits, inside, error, part, small, little, h .inv .1, h .inv .2, h .inv .5, pre .masked-long, pre .cipher-long)
+
+part-cipher-part-end : tie.Need-part-cipher-part-end Inv-loop μ-loop
+part-cipher-part-end c = omega arith
+
+add-cipher-part : tie.Need-add-cipher-part Inv-loop μ-loop
+add-cipher-part c =
+    let a = c .before .before .before .before .before .before .before .before .before .before .before .before .before .before .before .before .before .before .before .before .before .args in
+    let p = a .p in
+    let pre = c .before .before .before .before .before .before .before .before .before .before .before .before .before .before .before .before .before .before .before .before .before .pre in
+    let W = pre .factors .room .well in
+    let h = c .before .before .before .before .before .before .before .before .before .loop in
+    let fits : lengthOf p (h .j) (width p) + lengthOf p 1 (width p) ≤ paddedLength p = within p (width p) (omega arith) in
+    let inside : lengthOf p (h .j) (p .k) + lengthOf p 1 (p .k) ≤ ciphertextLength p = within p (p .k) (omega arith) in
+    let error = c .before .before .before .before .before .before .before .before .before .before .before .length-of .ensures .0 ∙ ap (lengthOf p 1) (c .before .before .before .before .before .before .before .before .before .before .before .before .width .ensures) in
+    let part = c .before .before .before .before .before .before .before .before .before .before .length-of2 .ensures .0 in
+    let small : ciphertextLength p ≤ 65536 = length-bound p W (omega (arith, W .few)) (W .word) in
+    let little : paddedLength p ≤ 65536 = length-bound p W (omega (arith, W .few)) (width-bound p W) in
+    omega (arith, fits, inside, error, part, small, little, h .inv .1, h .inv .2, h .inv .5, pre .masked-long, pre .cipher-long)
+
+sub-cipher-part-2 : tie.Need-sub-cipher-part-2 Inv-loop μ-loop
+sub-cipher-part-2 c = omega arith
+
+part-cipher-part-start-2 : tie.Need-part-cipher-part-start-2 Inv-loop μ-loop
+part-cipher-part-start-2 c = omega arith
+
+part-cipher-part-end-2 : tie.Need-part-cipher-part-end-2 Inv-loop μ-loop
+part-cipher-part-end-2 c =
+    let a = c .before .before .before .before .before .before .before .before .before .before .before .before .before .before .before .before .before .before .before .before .before .args in
+    let p = a .p in
+    let pre = c .before .before .before .before .before .before .before .before .before .before .before .before .before .before .before .before .before .before .before .before .before .pre in
+    let W = pre .factors .room .well in
+    let h = c .before .before .before .before .before .before .before .before .before .loop in
+    let fits : lengthOf p (h .j) (width p) + lengthOf p 1 (width p) ≤ paddedLength p = within p (width p) (omega arith) in
+    let inside : lengthOf p (h .j) (p .k) + lengthOf p 1 (p .k) ≤ ciphertextLength p = within p (p .k) (omega arith) in
+    let error = c .before .before .before .before .before .before .before .before .before .before .before .length-of .ensures .0 ∙ ap (lengthOf p 1) (c .before .before .before .before .before .before .before .before .before .before .before .before .width .ensures) in
+    let part = c .before .before .before .before .before .before .before .before .before .before .length-of2 .ensures .0 in
+    let small : ciphertextLength p ≤ 65536 = length-bound p W (omega (arith, W .few)) (W .word) in
+    let little : paddedLength p ≤ 65536 = length-bound p W (omega (arith, W .few)) (width-bound p W) in
+    omega (arith, fits, inside, error, part, small, little, h .inv .1, h .inv .2, h .inv .5, pre .masked-long, pre .cipher-long)
+
+cipher-part-requires : tie.Need-cipher-part-requires Inv-loop μ-loop
+cipher-part-requires c κs =
+    let a = c .before .before .before .before .before .before .before .before .before .before .before .before .before .before .before .before .before .before .before .before .before .before .args in
+    let p = a .p in
+    let pre = c .before .before .before .before .before .before .before .before .before .before .before .before .before .before .before .before .before .before .before .before .before .before .pre in
+    let W = pre .factors .room .well in
+    let h = c .before .before .before .before .before .before .before .before .before .before .loop in
+    let fits : lengthOf p (h .j) (width p) + lengthOf p 1 (width p) ≤ paddedLength p = within p (width p) (omega arith) in
+    let inside : lengthOf p (h .j) (p .k) + lengthOf p 1 (p .k) ≤ ciphertextLength p = within p (p .k) (omega arith) in
+    let error = c .before .before .before .before .before .before .before .before .before .before .before .before .length-of .ensures .0 ∙ ap (lengthOf p 1) (c .before .before .before .before .before .before .before .before .before .before .before .before .before .width .ensures) in
+    let part = c .before .before .before .before .before .before .before .before .before .before .before .length-of2 .ensures .0 in
+    let small : ciphertextLength p ≤ 65536 = length-bound p W (omega (arith, W .few)) (W .word) in
+    let little : paddedLength p ≤ 65536 = length-bound p W (omega (arith, W .few)) (width-bound p W) in
+    let bytes = now (a .masked) in (
+      record { well = W; errors-there = rw (take-rest (h .error-at) bytes, length-drop (h .error-at) bytes) omega (arith, fits, inside, error, part, small, little, h .inv .1, h .inv .2, h .inv .5, pre .masked-long, pre .cipher-long); first = c .before .before .before .before .before .before .factor .kept .1 .1 .1 .1 .1 .0 ∙ h .inv .3 ∙ pre .factors .room .vector-long; second = pre .secret-long; sum = h .inv .4 ∙ pre .sum },
+      part-length (h .at) (c .before .before .before .before .before .before .before .before .before .before .before .length-of2 .result) (h .dst) omega (arith, fits, inside, error, part, small, little, h .inv .1, h .inv .2, h .inv .5, pre .masked-long, pre .cipher-long) ∙ part,
+    )
+
+add-error-at : tie.Need-add-error-at Inv-loop μ-loop
+add-error-at c =
+    let a = c .before .before .before .before .before .before .before .before .before .before .before .before .before .before .before .before .before .before .before .before .before .before .before .before .before .before .before .args in
+    let p = a .p in
+    let pre = c .before .before .before .before .before .before .before .before .before .before .before .before .before .before .before .before .before .before .before .before .before .before .before .before .before .before .before .pre in
+    let W = pre .factors .room .well in
+    let h = c .before .before .before .before .before .before .before .before .before .before .before .before .before .before .before .loop in
+    let fits : lengthOf p (h .j) (width p) + lengthOf p 1 (width p) ≤ paddedLength p = within p (width p) (omega arith) in
+    let inside : lengthOf p (h .j) (p .k) + lengthOf p 1 (p .k) ≤ ciphertextLength p = within p (p .k) (omega arith) in
+    let error = c .before .before .before .before .before .before .before .before .before .before .before .before .before .before .before .before .before .length-of .ensures .0 ∙ ap (lengthOf p 1) (c .before .before .before .before .before .before .before .before .before .before .before .before .before .before .before .before .before .before .width .ensures) in
+    let part = c .before .before .before .before .before .before .before .before .before .before .before .before .before .before .before .before .length-of2 .ensures .0 in
+    let small : ciphertextLength p ≤ 65536 = length-bound p W (omega (arith, W .few)) (W .word) in
+    let little : paddedLength p ≤ 65536 = length-bound p W (omega (arith, W .few)) (width-bound p W) in
+    omega (arith, fits, inside, error, part, small, little, h .inv .1, h .inv .2, h .inv .5, pre .masked-long, pre .cipher-long)
+
+add-at : tie.Need-add-at Inv-loop μ-loop
+add-at c =
+    let a = c .before .before .before .before .before .before .before .before .before .before .before .before .before .before .before .before .before .before .before .before .before .before .before .before .before .before .before .args in
+    let p = a .p in
+    let pre = c .before .before .before .before .before .before .before .before .before .before .before .before .before .before .before .before .before .before .before .before .before .before .before .before .before .before .before .pre in
+    let W = pre .factors .room .well in
+    let h = c .before .before .before .before .before .before .before .before .before .before .before .before .before .before .before .loop in
+    let fits : lengthOf p (h .j) (width p) + lengthOf p 1 (width p) ≤ paddedLength p = within p (width p) (omega arith) in
+    let inside : lengthOf p (h .j) (p .k) + lengthOf p 1 (p .k) ≤ ciphertextLength p = within p (p .k) (omega arith) in
+    let error = c .before .before .before .before .before .before .before .before .before .before .before .before .before .before .before .before .before .length-of .ensures .0 ∙ ap (lengthOf p 1) (c .before .before .before .before .before .before .before .before .before .before .before .before .before .before .before .before .before .before .width .ensures) in
+    let part = c .before .before .before .before .before .before .before .before .before .before .before .before .before .before .before .before .length-of2 .ensures .0 in
+    let small : ciphertextLength p ≤ 65536 = length-bound p W (omega (arith, W .few)) (W .word) in
+    let little : paddedLength p ≤ 65536 = length-bound p W (omega (arith, W .few)) (width-bound p W) in
+    omega (arith, fits, inside, error, part, small, little, h .inv .1, h .inv .2, h .inv .5, pre .masked-long, pre .cipher-long)
+
+add-j : tie.Need-add-j Inv-loop μ-loop
+add-j c =
+    let a = c .before .before .before .before .before .before .before .before .before .before .before .before .before .before .before .before .before .before .before .before .before .before .before .before .before .before .before .args in
+    let p = a .p in
+    let pre = c .before .before .before .before .before .before .before .before .before .before .before .before .before .before .before .before .before .before .before .before .before .before .before .before .before .before .before .pre in
+    let W = pre .factors .room .well in
+    let h = c .before .before .before .before .before .before .before .before .before .before .before .before .before .before .before .loop in
+    let fits : lengthOf p (h .j) (width p) + lengthOf p 1 (width p) ≤ paddedLength p = within p (width p) (omega arith) in
+    let inside : lengthOf p (h .j) (p .k) + lengthOf p 1 (p .k) ≤ ciphertextLength p = within p (p .k) (omega arith) in
+    let error = c .before .before .before .before .before .before .before .before .before .before .before .before .before .before .before .before .before .length-of .ensures .0 ∙ ap (lengthOf p 1) (c .before .before .before .before .before .before .before .before .before .before .before .before .before .before .before .before .before .before .width .ensures) in
+    let part = c .before .before .before .before .before .before .before .before .before .before .before .before .before .before .before .before .length-of2 .ensures .0 in
+    let small : ciphertextLength p ≤ 65536 = length-bound p W (omega (arith, W .few)) (W .word) in
+    let little : paddedLength p ≤ 65536 = length-bound p W (omega (arith, W .few)) (width-bound p W) in
+    omega (arith, W .few)
+
+loop-less : tie.Need-loop-less Inv-loop μ-loop
+loop-less c = turn-less (omega arith)
+
+loop-again : tie.Need-loop-again Inv-loop μ-loop
+loop-again c =
+    let a = c .before .before .before .before .before .before .before .before .before .before .before .before .before .before .before .before .before .before .before .before .before .before .before .before .before .before .before .args in
+    let p = a .p in
+    let pre = c .before .before .before .before .before .before .before .before .before .before .before .before .before .before .before .before .before .before .before .before .before .before .before .before .before .before .before .pre in
+    let W = pre .factors .room .well in
+    let h = c .before .before .before .before .before .before .before .before .before .before .before .before .before .before .before .loop in
+    let fits : lengthOf p (h .j) (width p) + lengthOf p 1 (width p) ≤ paddedLength p = within p (width p) (omega arith) in
+    let inside : lengthOf p (h .j) (p .k) + lengthOf p 1 (p .k) ≤ ciphertextLength p = within p (p .k) (omega arith) in
+    let error = c .before .before .before .before .before .before .before .before .before .before .before .before .before .before .before .before .before .length-of .ensures .0 ∙ ap (lengthOf p 1) (c .before .before .before .before .before .before .before .before .before .before .before .before .before .before .before .before .before .before .width .ensures) in
+    let part = c .before .before .before .before .before .before .before .before .before .before .before .before .before .before .before .before .length-of2 .ensures .0 in
+    let small : ciphertextLength p ≤ 65536 = length-bound p W (omega (arith, W .few)) (W .word) in
+    let little : paddedLength p ≤ 65536 = length-bound p W (omega (arith, W .few)) (width-bound p W) in
+    let g : ℕ → Poly = λ i. plus (dot (p .l) (p .n) (factorBy p (now (a .pk)) (matrixIn p (now (a .rows))) (lowIn p (now (a .low))) i) (parts (p .n) (now (a .s)))) (smallIn p (now (a .masked)) i) in
+    let parts-of : ℕ → List ℕ = λ i. pack (p .k) (residues (modulus p) (p .n) (g i)) in
+    let part-len = c .before .before .before .before .before .before .before .before .before .before .before .before .before .before .before .before .length-of2 .result in
+    let bytes : Below 256 (now (a .masked)) = λ x. c .before .before .before .before .before .before .before .before .before .before .before .before .before .before .before .before .before .before .before .before .before .before .before .shared-slice-known4 .given x .fits in (
+      omega arith,
+      ap₂ _+_ (h .inv .1) error ∙ sym (length-add p (h .j) 1 (width p)),
+      ap₂ _+_ (h .inv .2) part ∙ sym (length-add p (h .j) 1 (p .k)),
+      c .before .before .before .before .before .before .before .before .before .before .before .factor .kept .1 .1 .1 .1 .1 .0 ∙ h .inv .3,
+      c .before .before .before .before .cipher-part .kept .1 .1 .1 .1 .0 ∙ h .inv .4,
+      same-len-mid (h .at) (h .at + part-len - h .at) (h .dst) (c .before .before .before .before .cipher-part .last .1 .1 .1 .1 .1 .0) (c .before .before .before .before .cipher-part .kept .1 .1 .1 .1 .1 .0) ∙ h .inv .5,
+      joined-turn (h .j) (h .at) part-len parts-of (now (a .dst)) (h .dst) _ (length-reduced-all p W (h .j) g ∙ sym (h .inv .2)) (h .inv .6)
+          (c .before .before .before .before .cipher-part .ensures ∙ ap (pack (p .k)) (part-is p W (h .j) (h .error-at) (now (a .masked)) (c .before .before .before .before .before .before .before .before .before .before .before .factor .last .1 .1 .1 .1 .1 .0) (now (a .s)) _ (parts (p .n) (now (a .s))) bytes (h .inv .1) (c .before .before .before .before .before .before .before .before .before .before .before .factor .ensures) (λ i x _ _. cong-refl (parts (p .n) (now (a .s)) i x)))),
+    )
+
+same-length : tie.Need-same-length Inv-loop μ-loop
+same-length c = c .before .before .loop .inv .3
+
+same-length-2 : tie.Need-same-length-2 Inv-loop μ-loop
+same-length-2 c = c .before .before .loop .inv .4
+
+same-length-3 : tie.Need-same-length-3 Inv-loop μ-loop
+same-length-3 c = c .before .before .loop .inv .5
+
+returns : tie.Need-returns Inv-loop μ-loop
+returns c =
+    let a = c .before .before .before .before .before .before .before .before .before .before .before .before .before .before .args in
+    let p = a .p in
+    let pre = c .before .before .before .before .before .before .before .before .before .before .before .before .before .before .pre in
+    let h = c .before .before .loop in
+    let g : ℕ → Poly = λ i. plus (dot (p .l) (p .n) (factorBy p (now (a .pk)) (matrixIn p (now (a .rows))) (lowIn p (now (a .low))) i) (parts (p .n) (now (a .s)))) (smallIn p (now (a .masked)) i) in
+    let parts-of : ℕ → List ℕ = λ i. pack (p .k) (residues (modulus p) (p .n) (g i)) in
+    let all : h .j ≡ p .l + 1 = omega arith in
+    joined-end (h .j) (h .at) parts-of (now (a .dst)) (h .dst) (rw (h .inv .2, all) (omega (arith, pre .cipher-long))) (h .inv .6) ∙ ap (λ (m : ℕ). joined m parts-of) all
+
+pub cipher-parts-spec : {M : Type 1} → statement M
+cipher-parts-spec =
+    tie.close
+    (tie.spec
+    Inv-loop
+    μ-loop
+    width-requires
+    length-of-requires
+    length-of-requires-2
+    loop-holds
+    add-if1
+    factor-requires
+    sub-cipher-part
+    part-cipher-part-start
+    part-cipher-part-end
+    add-cipher-part
+    sub-cipher-part-2
+    part-cipher-part-start-2
+    part-cipher-part-end-2
+    cipher-part-requires
+    add-error-at
+    add-at
+    add-j
+    loop-less
+    loop-again
+    same-length
+    same-length-2
+    same-length-3
+    returns)

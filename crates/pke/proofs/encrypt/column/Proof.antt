@@ -1,0 +1,226 @@
+-- `pke::encrypt::column` meets its contract: after i turns the first i polynomials of the column are there.
+-- Assumes nothing.
+use Rattle.kindi.specs.Streams.{matrixIn, coefficient}
+use Rattle.pke.proofs.Reading.{rest-entries}
+use Rattle.pke.proofs.Amounts.{reads-rest, part-length, within, cell, length-add, length-bound, square, row-fits}
+use borrow.Rule.Slice.PartMut.{same-len-mid}
+use Rattle.pke.proofs.Joining.{joined-turn, joined-end}
+use Rattle.kindi.specs.Params.{lengthOf, matrixLength}
+use Rattle.pke.specs.Vectors.{vector}
+use Rattle.kindi.proofs.Strings.{length-joined}
+use Rattle.kindi.specs.Keys.{joined}
+use Rattle.ring.proofs.Filling.{turn-less}
+use Rattle.ring.proofs.Residues.{length-residues}
+use Rattle.ring.specs.Poly.{residues}
+use Rattle.ring.specs.Bits.{unpack, Below}
+use lib.ListN.{length, take, drop}
+use lib.IntN.{pos}
+use Prim.Native.Nat.{ℕ, _+_, _*_, _-_, _≤_}
+use denote.Ref.{now}
+use native.Mathlib.Omega.{arith}
+use native.Mathlib.Numerals.{add-one}
+use native.Mathlib.Nat.{one-mul, zero-mul, zero-add, suc-mul}
+use mathlib.Core.List.{List, _++_}
+use mathlib.Core.Path.{_≡_, refl, sym, ap, ap₂, _∙_}
+use Rattle.pke.proofs.encrypt.column.Statement.{statement}
+use Rattle.pke.proofs.encrypt.column.Tie as tie
+
+next : (i l j : ℕ) → i * l + j + l ≡ (i + 1) * l + j
+next i l j = rw (add-one i, suc-mul i l) (omega arith)
+
+abbrev Inv-loop : tie.InvT-loop
+Inv-loop p rows j f₀ n row from₀ at₀ i₀ f from at i = (i ≤ p .l) × (from ≡ lengthOf p (i * p .l + j) (p .k)) × (at ≡ i * p .n) × (length f ≡ length f₀) × (f ≡ joined i (λ y. residues 65536 (p .n) (λ x. pos (coefficient (p .k) (p .n) rows (y * p .l + j) x))) ++ drop at f₀)
+
+abbrev μ-loop : tie.MeasureT-loop
+μ-loop p rows j f₀ n row from₀ at₀ i₀ f from at i = p .l - i
+
+length-of-requires : tie.Need-length-of-requires Inv-loop μ-loop
+length-of-requires c κs =
+    let W = c .before .before .pre .0 in
+    (W, omega (arith, W .few), W .word)
+
+length-of-requires-2 : tie.Need-length-of-requires-2 Inv-loop μ-loop
+length-of-requires-2 c κs =
+    let pre = c .before .before .before .pre in
+    (pre .0, omega (arith, pre .0 .few, pre .2), pre .0 .word)
+
+loop-holds : tie.Need-loop-holds Inv-loop μ-loop
+unfolding joined
+loop-holds c =
+    let p = c .before .before .before .before .args .p in
+    (omega arith, c .length-of2 .ensures .0 ∙ sym (ap (λ (m : ℕ). lengthOf p m (p .k)) (ap (λ (m : ℕ). m + c .before .before .before .before .args .j) (zero-mul (p .l)) ∙ zero-add (c .before .before .before .before .args .j))), sym (zero-mul (p .n)), refl, refl)
+
+sub-unpack : tie.Need-sub-unpack Inv-loop μ-loop
+sub-unpack c =
+    let pre = c .before .before .before .before .before .before .before .pre in
+    let a = c .before .before .before .before .before .before .before .args in
+    let p = a .p in
+    let h = c .before .before .loop in
+    let inside : lengthOf p (h .i * p .l + a .j) (p .k) + lengthOf p 1 (p .k) ≤ matrixLength p = within p (p .k) (cell (omega arith) (pre .2)) in
+    let room : h .i * p .n + p .n ≤ p .l * p .n = row-fits (p .n) (omega arith) in
+    let some : matrixLength p ≤ 65536 = length-bound p (pre .0) (square (pre .0 .few)) (pre .0 .word) in
+    omega (arith, inside, room, some, pre .0 .vector, pre .1, pre .3)
+
+part-unpack-start : tie.Need-part-unpack-start Inv-loop μ-loop
+part-unpack-start c =
+    let pre = c .before .before .before .before .before .before .before .pre in
+    let a = c .before .before .before .before .before .before .before .args in
+    let p = a .p in
+    let h = c .before .before .loop in
+    let inside : lengthOf p (h .i * p .l + a .j) (p .k) + lengthOf p 1 (p .k) ≤ matrixLength p = within p (p .k) (cell (omega arith) (pre .2)) in
+    let room : h .i * p .n + p .n ≤ p .l * p .n = row-fits (p .n) (omega arith) in
+    let some : matrixLength p ≤ 65536 = length-bound p (pre .0) (square (pre .0 .few)) (pre .0 .word) in
+    omega (arith, inside, room, some, pre .0 .vector, pre .1, pre .3)
+
+part-unpack-end : tie.Need-part-unpack-end Inv-loop μ-loop
+part-unpack-end c = omega arith
+
+add-unpack : tie.Need-add-unpack Inv-loop μ-loop
+add-unpack c =
+    let pre = c .before .before .before .before .before .before .before .before .pre in
+    let a = c .before .before .before .before .before .before .before .before .args in
+    let p = a .p in
+    let h = c .before .before .before .loop in
+    let inside : lengthOf p (h .i * p .l + a .j) (p .k) + lengthOf p 1 (p .k) ≤ matrixLength p = within p (p .k) (cell (omega arith) (pre .2)) in
+    let room : h .i * p .n + p .n ≤ p .l * p .n = row-fits (p .n) (omega arith) in
+    let some : matrixLength p ≤ 65536 = length-bound p (pre .0) (square (pre .0 .few)) (pre .0 .word) in
+    omega (arith, inside, room, some, pre .0 .vector, pre .1, pre .3)
+
+mul-unpack : tie.Need-mul-unpack Inv-loop μ-loop
+mul-unpack c =
+    let pre = c .before .before .before .before .before .before .before .before .pre in
+    let a = c .before .before .before .before .before .before .before .before .args in
+    let p = a .p in
+    let h = c .before .before .before .loop in
+    let inside : lengthOf p (h .i * p .l + a .j) (p .k) + lengthOf p 1 (p .k) ≤ matrixLength p = within p (p .k) (cell (omega arith) (pre .2)) in
+    let room : h .i * p .n + p .n ≤ p .l * p .n = row-fits (p .n) (omega arith) in
+    let some : matrixLength p ≤ 65536 = length-bound p (pre .0) (square (pre .0 .few)) (pre .0 .word) in
+    omega (arith, inside, room, some, pre .0 .vector, pre .1, pre .3)
+
+sub-unpack-2 : tie.Need-sub-unpack-2 Inv-loop μ-loop
+sub-unpack-2 c = omega arith
+
+part-unpack-start-2 : tie.Need-part-unpack-start-2 Inv-loop μ-loop
+part-unpack-start-2 c = omega arith
+
+part-unpack-end-2 : tie.Need-part-unpack-end-2 Inv-loop μ-loop
+part-unpack-end-2 c =
+    let pre = c .before .before .before .before .before .before .before .before .pre in
+    let a = c .before .before .before .before .before .before .before .before .args in
+    let p = a .p in
+    let h = c .before .before .before .loop in
+    let inside : lengthOf p (h .i * p .l + a .j) (p .k) + lengthOf p 1 (p .k) ≤ matrixLength p = within p (p .k) (cell (omega arith) (pre .2)) in
+    let room : h .i * p .n + p .n ≤ p .l * p .n = row-fits (p .n) (omega arith) in
+    let some : matrixLength p ≤ 65536 = length-bound p (pre .0) (square (pre .0 .few)) (pre .0 .word) in
+    omega (arith, room, pre .3)
+
+unpack-requires : tie.Need-unpack-requires Inv-loop μ-loop
+unpack-requires c κs =
+    let pre = c .before .before .before .before .before .before .before .before .before .pre in
+    let a = c .before .before .before .before .before .before .before .before .before .args in
+    let p = a .p in
+    let h = c .before .before .before .before .loop in
+    let inside : lengthOf p (h .i * p .l + a .j) (p .k) + lengthOf p 1 (p .k) ≤ matrixLength p = within p (p .k) (cell (omega arith) (pre .2)) in
+    let room : h .i * p .n + p .n ≤ p .l * p .n = row-fits (p .n) (omega arith) in
+    let some : matrixLength p ≤ 65536 = length-bound p (pre .0) (square (pre .0 .few)) (pre .0 .word) in
+    let long : length (take (h .at + p .n - h .at) (drop (h .at) (h .f))) ≡ p .n = part-length (h .at) (p .n) (h .f) (omega (arith, room, h .inv .2, h .inv .3, pre .3)) in
+    (pre .0 .word, reads-rest p (pre .0) 1 (p .k) (h .from) (now (a .rows)) (long ∙ sym (one-mul (p .n))) (omega (arith, inside, h .inv .1, pre .1)))
+
+add-from : tie.Need-add-from Inv-loop μ-loop
+add-from c =
+    let pre = c .before .before .before .before .before .before .before .before .before .before .before .before .pre in
+    let a = c .before .before .before .before .before .before .before .before .before .before .before .before .args in
+    let p = a .p in
+    let h = c .before .before .before .before .before .before .before .loop in
+    let inside : lengthOf p (h .i * p .l + a .j) (p .k) + lengthOf p 1 (p .k) ≤ matrixLength p = within p (p .k) (cell (omega arith) (pre .2)) in
+    let room : h .i * p .n + p .n ≤ p .l * p .n = row-fits (p .n) (omega arith) in
+    let some : matrixLength p ≤ 65536 = length-bound p (pre .0) (square (pre .0 .few)) (pre .0 .word) in
+    let row = c .before .before .before .before .before .before .before .before .before .length-of .ensures in
+    omega (arith, inside, some, h .inv .1, row .1)
+
+add-at : tie.Need-add-at Inv-loop μ-loop
+add-at c =
+    let pre = c .before .before .before .before .before .before .before .before .before .before .before .before .pre in
+    let a = c .before .before .before .before .before .before .before .before .before .before .before .before .args in
+    let p = a .p in
+    let h = c .before .before .before .before .before .before .before .loop in
+    let inside : lengthOf p (h .i * p .l + a .j) (p .k) + lengthOf p 1 (p .k) ≤ matrixLength p = within p (p .k) (cell (omega arith) (pre .2)) in
+    let room : h .i * p .n + p .n ≤ p .l * p .n = row-fits (p .n) (omega arith) in
+    let some : matrixLength p ≤ 65536 = length-bound p (pre .0) (square (pre .0 .few)) (pre .0 .word) in
+    omega (arith, inside, room, some, pre .0 .vector, pre .1, pre .3)
+
+add-i : tie.Need-add-i Inv-loop μ-loop
+add-i c =
+    let pre = c .before .before .before .before .before .before .before .before .before .before .before .before .pre in
+    let a = c .before .before .before .before .before .before .before .before .before .before .before .before .args in
+    let p = a .p in
+    let h = c .before .before .before .before .before .before .before .loop in
+    let inside : lengthOf p (h .i * p .l + a .j) (p .k) + lengthOf p 1 (p .k) ≤ matrixLength p = within p (p .k) (cell (omega arith) (pre .2)) in
+    let room : h .i * p .n + p .n ≤ p .l * p .n = row-fits (p .n) (omega arith) in
+    let some : matrixLength p ≤ 65536 = length-bound p (pre .0) (square (pre .0 .few)) (pre .0 .word) in
+    omega (arith, pre .0 .few)
+
+loop-less : tie.Need-loop-less Inv-loop μ-loop
+loop-less c = turn-less (omega arith)
+
+loop-again : tie.Need-loop-again Inv-loop μ-loop
+loop-again c =
+    let pre = c .before .before .before .before .before .before .before .before .before .before .before .before .pre in
+    let a = c .before .before .before .before .before .before .before .before .before .before .before .before .args in
+    let p = a .p in
+    let h = c .before .before .before .before .before .before .before .loop in
+    let inside : lengthOf p (h .i * p .l + a .j) (p .k) + lengthOf p 1 (p .k) ≤ matrixLength p = within p (p .k) (cell (omega arith) (pre .2)) in
+    let room : h .i * p .n + p .n ≤ p .l * p .n = row-fits (p .n) (omega arith) in
+    let some : matrixLength p ≤ 65536 = length-bound p (pre .0) (square (pre .0 .few)) (pre .0 .word) in
+    let row = c .before .before .before .before .before .before .before .before .before .length-of .ensures in
+    let g : ℕ → List ℕ = λ y. residues 65536 (p .n) (matrixIn p (now (a .rows)) y (a .j)) in
+    let bytes : Below 256 (now (a .rows)) = λ x. c .before .before .before .before .before .before .before .before .before .before .before .shared-slice-known .given x .fits in
+    let long : length (take (h .at + p .n - h .at) (drop (h .at) (h .f))) ≡ p .n = part-length (h .at) (p .n) (h .f) (omega (arith, room, h .inv .2, h .inv .3, pre .3)) in
+    let before : length (joined (h .i) g) ≡ h .at = length-joined (h .i) (p .n) g (λ y _. length-residues 65536 (p .n) (matrixIn p (now (a .rows)) y (a .j))) ∙ sym (h .inv .2) in (
+      omega arith,
+      ap₂ _+_ (h .inv .1) (row .0) ∙ sym (length-add p (h .i * p .l + a .j) (p .l) (p .k)) ∙ ap (λ (m : ℕ). lengthOf p m (p .k)) (next (h .i) (p .l) (a .j)),
+      rw add-one (rw suc-mul (ap (λ (m : ℕ). m + p .n) (h .inv .2))),
+      same-len-mid (h .at) (h .at + p .n - h .at) (h .f) (c .before .before .unpack .last .1 .1 .0) (c .before .before .unpack .kept .1 .1 .0) ∙ h .inv .3,
+      joined-turn (h .i) (h .at) (p .n) g (now (a .f)) (h .f) _ before (h .inv .4)
+          (c .before .before .unpack .ensures ∙ rest-entries p (pre .0) (p .k) (h .i * p .l + a .j) (p .n) (h .from) (now (a .rows)) (pre .0 .word) bytes (h .inv .1) long),
+    )
+
+same-length : tie.Need-same-length Inv-loop μ-loop
+same-length c = c .before .before .loop .inv .3
+
+returns : tie.Need-returns Inv-loop μ-loop
+unfolding vector
+returns c =
+    let pre = c .before .before .before .before .before .before .before .pre in
+    let a = c .before .before .before .before .before .before .before .args in
+    let h = c .before .before .loop in
+    let p = a .p in
+    let g : ℕ → List ℕ = λ y. residues 65536 (p .n) (matrixIn p (now (a .rows)) y (a .j)) in
+    let all : h .i ≡ p .l = omega arith in
+    joined-end (h .i) (h .at) g (now (a .f)) (h .f) (rw (h .inv .2, all) (omega (arith, pre .3))) (h .inv .4) ∙ ap (λ (m : ℕ). joined m g) all
+
+pub column-spec : {M : Type 1} → statement M
+column-spec =
+    tie.close
+    (tie.spec
+    Inv-loop
+    μ-loop
+    length-of-requires
+    length-of-requires-2
+    loop-holds
+    sub-unpack
+    part-unpack-start
+    part-unpack-end
+    add-unpack
+    mul-unpack
+    sub-unpack-2
+    part-unpack-start-2
+    part-unpack-end-2
+    unpack-requires
+    add-from
+    add-at
+    add-i
+    loop-less
+    loop-again
+    same-length
+    returns)

@@ -1,0 +1,3 @@
+-- What the contracts of `scheme` say.
+pub mod Status
+pub mod Exits

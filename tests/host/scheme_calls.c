@@ -1,0 +1,187 @@
+/*
+ * Calls the scheme from C, as firmware does: every slice ends at a page that nobody may touch, so that a
+ * read or a write past it is a crash, and then begins after one. In every set a call that fits succeeds
+ * and gives the same twice, whatever was in the outputs and the work area; a message may be NULL. It names
+ * each part as it starts, so that the last line says where a crash was.
+ */
+#define _DEFAULT_SOURCE
+
+#include <stdio.h>
+#include <stdlib.h>
+#include <string.h>
+#include <sys/mman.h>
+#include <unistd.h>
+
+#include "kindi.h"
+
+#define SETS 4
+#define MOST 16384
+
+/* Each slice's room: whole pages, MOST bytes or more, between two pages that nobody may touch. */
+enum { MU, GAMMA, Z, PUBLIC_KEY, SECRET_KEY, COINS, MESSAGE, KEY, CIPHERTEXT, WORK, SLICES };
+static uint8_t *rooms[SLICES];
+static size_t room_len;
+
+static void fail(const char *what)
+{
+    printf("FAILED: %s\n", what);
+    exit(1);
+}
+
+static void make_rooms(void)
+{
+    size_t page = (size_t)sysconf(_SC_PAGESIZE), i;
+    uint8_t *start;
+
+    room_len = (MOST / page + 1) * page;
+    for (i = 0; i < SLICES; i++) {
+        start = mmap(NULL, room_len + 2 * page, PROT_NONE, MAP_PRIVATE | MAP_ANONYMOUS, -1, 0);
+        if (start == MAP_FAILED || mprotect(start + page, room_len, PROT_READ | PROT_WRITE) != 0)
+            fail("no pages to test with");
+        rooms[i] = start + page;
+    }
+}
+
+/* The slice of a room: its last bytes, or its first. */
+static uint8_t *slice(int which, size_t size, int at_end)
+{
+    return at_end ? rooms[which] + room_len - size : rooms[which];
+}
+
+/* A slice with content that depends on the turn. */
+static uint8_t *filled(int which, size_t size, int at_end, unsigned turn)
+{
+    uint8_t *p = slice(which, size, at_end);
+    size_t i;
+
+    for (i = 0; i < size; i++)
+        p[i] = (uint8_t)(turn + (unsigned)which * 31 + i * 167 + (i >> 8));
+    return p;
+}
+
+/* What was in the outputs and the work area differs by turn, and what is there after the call does not. */
+static void same(unsigned turn, uint8_t *first, const uint8_t *output, size_t size)
+{
+    if (turn == 0)
+        memcpy(first, output, size);
+    else if (memcmp(first, output, size) != 0)
+        fail("the same call twice gave two answers");
+}
+
+static void succeeded(uint32_t status, const uint8_t *work, size_t work_len)
+{
+    size_t i;
+
+    if (status != KINDI_OK)
+        fail("refused");
+    for (i = 0; i < work_len; i++)
+        if (work[i] != 0)
+            fail("the work area is not all zeros");
+}
+
+static void keygen(uint32_t set, int at_end)
+{
+    static uint8_t first[2][MOST];
+    size_t seed = KINDI_SEED_LEN(set), public_len = KINDI_PUBLIC_KEY_LEN(set);
+    size_t secret_len = KINDI_SECRET_KEY_LEN(set), work_len = KINDI_KEYGEN_WORK_LEN(set);
+    uint8_t *mu = filled(MU, seed, at_end, 0), *gamma = filled(GAMMA, seed, at_end, 0);
+    uint8_t *z = filled(Z, seed, at_end, 0);
+    unsigned turn;
+
+    for (turn = 0; turn < 2; turn++) {
+        uint8_t *public_key = filled(PUBLIC_KEY, public_len, at_end, turn + 1);
+        uint8_t *secret_key = filled(SECRET_KEY, secret_len, at_end, turn + 1);
+        uint8_t *work = filled(WORK, work_len, at_end, turn + 1);
+
+        succeeded(kindi_keygen(set, mu, seed, gamma, seed, z, seed, public_key, public_len, secret_key, secret_len,
+            work, work_len), work, work_len);
+        same(turn, first[0], public_key, public_len);
+        same(turn, first[1], secret_key, secret_len);
+    }
+}
+
+/* With a message of some length; one of length 0 is NULL at the second turn. */
+static void encrypt_message(uint32_t set, int at_end, size_t message_len)
+{
+    static uint8_t first[MOST];
+    size_t public_len = KINDI_PUBLIC_KEY_LEN(set), coins_len = KINDI_COINS_LEN(set);
+    size_t ciphertext_len = KINDI_CIPHERTEXT_LEN(set), work_len = KINDI_ENCRYPT_WORK_LEN(set);
+    uint8_t *public_key = slice(PUBLIC_KEY, public_len, at_end), *coins = filled(COINS, coins_len, at_end, 0);
+    uint8_t *message = filled(MESSAGE, message_len, at_end, 0);
+    unsigned turn;
+
+    for (turn = 0; turn < 2; turn++) {
+        uint8_t *ciphertext = filled(CIPHERTEXT, ciphertext_len, at_end, turn + 1);
+        uint8_t *work = filled(WORK, work_len, at_end, turn + 1);
+
+        succeeded(kindi_encrypt(set, public_key, public_len, coins, coins_len,
+            turn == 1 && message_len == 0 ? NULL : message, message_len, ciphertext, ciphertext_len, work, work_len),
+            work, work_len);
+        same(turn, first, ciphertext, ciphertext_len);
+    }
+}
+
+static void encrypt(uint32_t set, int at_end)
+{
+    encrypt_message(set, at_end, 0);
+    encrypt_message(set, at_end, 1);
+    encrypt_message(set, at_end, KINDI_MESSAGE_MAX_LEN(set) - 1);
+    encrypt_message(set, at_end, KINDI_MESSAGE_MAX_LEN(set));
+}
+
+static void encaps(uint32_t set, int at_end)
+{
+    static uint8_t first[2][MOST];
+    size_t public_len = KINDI_PUBLIC_KEY_LEN(set), coins_len = KINDI_COINS_LEN(set), key_len = KINDI_KEY_LEN(set);
+    size_t ciphertext_len = KINDI_CIPHERTEXT_LEN(set), work_len = KINDI_ENCAPS_WORK_LEN(set);
+    uint8_t *public_key = slice(PUBLIC_KEY, public_len, at_end), *coins = filled(COINS, coins_len, at_end, 0);
+    unsigned turn;
+
+    for (turn = 0; turn < 2; turn++) {
+        uint8_t *key = filled(KEY, key_len, at_end, turn + 1);
+        uint8_t *ciphertext = filled(CIPHERTEXT, ciphertext_len, at_end, turn + 1);
+        uint8_t *work = filled(WORK, work_len, at_end, turn + 1);
+
+        succeeded(kindi_encaps(set, public_key, public_len, coins, coins_len, key, key_len, ciphertext, ciphertext_len,
+            work, work_len), work, work_len);
+        same(turn, first[0], key, key_len);
+        same(turn, first[1], ciphertext, ciphertext_len);
+    }
+}
+
+/* Every slice NULL and empty: refused, and nothing is touched. */
+static void nulls(uint32_t set, int at_end)
+{
+    uint32_t wrong = KINDI_WRONG_INPUT_LEN;
+
+    (void)at_end;
+    if (kindi_keygen(set, NULL, 0, NULL, 0, NULL, 0, NULL, 0, NULL, 0, NULL, 0) != wrong
+        || kindi_encrypt(set, NULL, 0, NULL, 0, NULL, 0, NULL, 0, NULL, 0) != wrong
+        || kindi_encaps(set, NULL, 0, NULL, 0, NULL, 0, NULL, 0, NULL, 0) != wrong)
+        fail("empty slices are not refused as they should be");
+}
+
+int main(void)
+{
+    static const struct part {
+        const char *name;
+        void (*run)(uint32_t set, int at_end);
+    } parts[] = { { "keygen", keygen }, { "encrypt", encrypt }, { "encaps", encaps }, { "all NULL", nulls } };
+    uint32_t set;
+    int at_end;
+    size_t p;
+
+    setvbuf(stdout, NULL, _IONBF, 0);
+    make_rooms();
+    for (set = 1; set <= SETS; set++) {
+        for (at_end = 0; at_end < 2; at_end++) {
+            /* The public key that keygen leaves in its room is the one that is encrypted to. */
+            for (p = 0; p < sizeof parts / sizeof parts[0]; p++) {
+                printf("set %lu: %s, slices at the %s of their pages\n", (unsigned long)set, parts[p].name,
+                    at_end ? "end" : "start");
+                parts[p].run(set, at_end);
+            }
+        }
+    }
+    return 0;
+}

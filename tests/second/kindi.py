@@ -1,0 +1,653 @@
+#!/usr/bin/env python3
+"""The scheme of the second implementation: keys, encryption, decryption, shared keys, the noise and the
+choice among coins, written from the paper 01 alone in plain integers and lists. SHAKE is hashlib's.
+
+A polynomial is a list of n integers, coefficient 0 first, which is taken modulo q only where the paper
+asks for it. `answer` and `call` give the whole answer of a C call: its status, the values that it
+returns, and each output and the work area as they are at exit.
+
+usage: kindi.py    check the lengths and examples of the paper, round trips, and the refusals 1 to 9
+"""
+
+import functools
+import hashlib
+import random
+import sys
+from collections.abc import Callable
+from dataclasses import dataclass
+from pathlib import Path
+
+sys.path.insert(0, str(Path(__file__).resolve().parents[1]))
+
+from second import ring  # noqa: E402
+
+
+# Parameter sets: all but the eight fields follows from them.
+
+@dataclass(frozen=True)
+class Parameters:
+    n: int
+    l: int
+    p: int
+    t: int
+    k: int
+    seed: int
+    coins: int
+    shake: Callable
+
+    @property
+    def q(self):
+        return 2**self.k
+
+    @property
+    def g(self):
+        return self.q // 2
+
+    @property
+    def small(self):
+        """The width in bits of a small coefficient, 0 to 2p - 1."""
+        return ring.width(2 * self.p)
+
+    def size(self, count, w):
+        """The bytes of some polynomials of w bits a coefficient."""
+        return -(-count * self.n * w // 8)
+
+    @property
+    def padded(self):
+        """The bytes of a padded message, 01's container: the errors of C and D."""
+        return self.size(self.l + 1, self.small)
+
+    @property
+    def message(self):
+        """The greatest length of a message."""
+        return self.padded - 1
+
+    @property
+    def public_key(self):
+        return self.size(self.l, self.k - self.t) + self.seed
+
+    @property
+    def secret_key(self):
+        return self.public_key + 2 * self.seed
+
+    @property
+    def ciphertext(self):
+        return self.size(self.l + 1, self.k)
+
+    @property
+    def matrix_stream(self):
+        return self.size(self.l * self.l, self.k)
+
+    @property
+    def gamma_stream(self):
+        return self.size(2 * self.l, self.small)
+
+    @property
+    def coins_parts(self):
+        """The bytes of w, the mask, h, and s_2 to s_l, the parts of the coins' stream."""
+        return [self.size(self.l, self.t), self.padded, self.size(1, ring.width(self.p)),
+                self.size(self.l - 1, self.small)]
+
+    def run(self, data, length):
+        """A single run of SHAKE."""
+        return self.shake(data).digest(length)
+
+
+def usual(n, l, p, t, k, shake):
+    """Parameters whose seed and coins have n bits."""
+    return Parameters(n, l, p, t, k, n // 8, n // 8, shake)
+
+
+SETS = {
+    1: usual(256, 3, 4, 2, 14, hashlib.shake_128),
+    2: usual(512, 2, 2, 2, 13, hashlib.shake_256),
+    3: usual(512, 2, 4, 1, 14, hashlib.shake_256),
+    4: usual(512, 3, 2, 1, 13, hashlib.shake_256),
+}
+
+
+# Streams
+
+def cut(data, *sizes):
+    """A string of bytes cut into parts of the given sizes, which it has exactly."""
+    parts = []
+    for size in sizes:
+        parts.append(data[:size])
+        data = data[size:]
+    assert not data
+    return parts
+
+
+def polynomials(s, w, data):
+    """All polynomials of w bits a coefficient in a string of bytes."""
+    count = 8 * len(data) // (w * s.n)
+    flat = ring.unpack(w, count * s.n, data)
+    return [flat[i * s.n:(i + 1) * s.n] for i in range(count)]
+
+
+def string(w, polys):
+    """The bytes of polynomials at w bits a coefficient."""
+    return ring.pack(w, [c for poly in polys for c in poly])
+
+
+def centred(p, polys):
+    return [ring.centre(poly, p) for poly in polys]
+
+
+@functools.lru_cache(maxsize=32)
+def matrix(s, mu):
+    """A from mu, as a list of rows."""
+    flat = polynomials(s, s.k, s.run(mu, s.matrix_stream))
+    return [flat[i * s.l:(i + 1) * s.l] for i in range(s.l)]
+
+
+@functools.lru_cache(maxsize=32)
+def key_secrets(s, gamma):
+    """r_1 to r_l and r'_1 to r'_l from gamma."""
+    polys = centred(s.p, polynomials(s, s.small, s.run(gamma, s.gamma_stream)))
+    return polys[:s.l], polys[s.l:]
+
+
+def bits_of(data):
+    """The bits of a string of bytes, bit 0 of each byte first."""
+    return ring.unpack(1, 8 * len(data), data)
+
+
+def coins_stream(s, coins):
+    """w, the mask, and s_1 to s_l from the coins."""
+    parts = cut(s.run(coins, sum(s.coins_parts)), *s.coins_parts)
+    w = centred(2**(s.t - 1), polynomials(s, s.t, parts[0]))
+    high, = polynomials(s, ring.width(s.p), parts[2])
+    first = [bit + 2 * h - s.p for bit, h in zip(bits_of(coins), high, strict=True)]
+    return w, parts[1], [first] + centred(s.p, polynomials(s, s.small, parts[3]))
+
+
+# Keys, encryption, decryption
+
+def dot(xs, ys):
+    """The sum of the products of two lists of polynomials."""
+    products = [ring.product(x, y) for x, y in zip(xs, ys, strict=True)]
+    return functools.reduce(ring.add, products)
+
+
+@functools.lru_cache(maxsize=32)
+def public_value(s, mu, gamma):
+    """b = A r + r' in 0 to q - 1."""
+    r, r_prime = key_secrets(s, gamma)
+    return [ring.modulo(s.q, ring.add(dot(row, r), rest)) for row, rest in zip(matrix(s, mu), r_prime)]
+
+
+def drop_low_bits(s, poly):
+    return [c // 2**s.t for c in poly]
+
+
+def make_public_key(s, mu, gamma):
+    return string(s.k - s.t, [drop_low_bits(s, b) for b in public_value(s, mu, gamma)]) + mu
+
+
+def split_public_key(s, public_key):
+    """The stored polynomials and mu."""
+    stored, mu = cut(public_key, s.public_key - s.seed, s.seed)
+    return polynomials(s, s.k - s.t, stored), mu
+
+
+def split_secret_key(s, secret_key):
+    """The public key, mu, gamma and z."""
+    stored, mu, gamma, z = cut(secret_key, s.public_key - s.seed, s.seed, s.seed, s.seed)
+    return stored + mu, mu, gamma, z
+
+
+def pad(s, message):
+    """The message, one byte 01, then zeros."""
+    return message + b"\x01" + bytes(s.padded - len(message) - 1)
+
+
+def unpad(padded):
+    """The message of a padded message, or None where its last non-zero byte is not 01."""
+    body = padded.rstrip(b"\x00")
+    return body[:-1] if body.endswith(b"\x01") else None
+
+
+def xor(a, b):
+    return bytes(x ^ y for x, y in zip(a, b, strict=True))
+
+
+def errors_of(s, padded, mask):
+    """e_1 to e_(l+1)."""
+    return centred(s.p, polynomials(s, s.small, xor(padded, mask)))
+
+
+def without_errors(s, public_key, w, secrets):
+    """C_1 to C_l, then D, before their errors are added."""
+    stored, mu = split_public_key(s, public_key)
+    p_values = [[2**s.t * c + d for c, d in zip(poly, low)] for poly, low in zip(stored, w, strict=True)]
+    p_values[0][0] += s.g
+    columns = zip(*matrix(s, mu))
+    return [dot(column, secrets) for column in columns] + [dot(p_values, secrets)]
+
+
+def encrypt_padded(s, public_key, coins, padded):
+    w, mask, secrets = coins_stream(s, coins)
+    sums = map(ring.add, without_errors(s, public_key, w, secrets), errors_of(s, padded, mask))
+    return string(s.k, sums)
+
+
+def difference_value(s, secret_key, ciphertext):
+    """V = D - sum of C_j r_j, in 0 to q - 1."""
+    *c, d = polynomials(s, s.k, ciphertext)
+    r, _ = key_secrets(s, split_secret_key(s, secret_key)[2])
+    return ring.modulo(s.q, ring.subtract(d, dot(c, r)))
+
+
+def rounded_bits(q, values):
+    return [(v + q // 4) // (q // 2) % 2 for v in values]
+
+
+def recovered_coins(s, secret_key, ciphertext):
+    """The coins found by rounding, or None where a length is wrong."""
+    if (len(secret_key), len(ciphertext)) != (s.secret_key, s.ciphertext):
+        return None
+    bits = rounded_bits(s.q, difference_value(s, secret_key, ciphertext))
+    return ring.pack(1, bits[:8 * s.coins])
+
+
+class Refused(Exception):
+    """A refusal, with its number in the paper's table."""
+
+    def __init__(self, number):
+        super().__init__(number)
+        self.number = number
+
+
+def refuse(number, when):
+    if when:
+        raise Refused(number)
+
+
+def shifted_errors(q, p, errors):
+    """The errors plus p modulo q, refused where one is too large."""
+    out = [ring.modulo(q, [c + p for c in e]) for e in errors]
+    refuse(5, any(c > 2 * p - 1 for e in out for c in e))
+    return out
+
+
+def decrypt_padded(s, secret_key, ciphertext):
+    """The recovered coins and the padded message."""
+    coins = recovered_coins(s, secret_key, ciphertext)
+    w, mask, secrets = coins_stream(s, coins)
+    rest = without_errors(s, split_secret_key(s, secret_key)[0], w, secrets)
+    u = shifted_errors(s.q, s.p, map(ring.subtract, polynomials(s, s.k, ciphertext), rest))
+    return coins, xor(string(s.small, u), mask)
+
+
+def digest(s, coins):
+    return s.run(coins + b"\x04", s.coins)
+
+
+def shared_key(s, coins, ciphertext):
+    return s.run(coins + ciphertext, s.coins)
+
+
+# Noise
+
+def noise_of(s, mu, gamma, coins, message):
+    """The noise, over the integers modulo X^n + 1."""
+    r, r_prime = key_secrets(s, gamma)
+    w, mask, secrets = coins_stream(s, coins)
+    *e, last = errors_of(s, pad(s, message), mask)
+    low = [[c % 2**s.t for c in b] for b in public_value(s, mu, gamma)]
+    x = [ring.subtract(ring.add(*both), dropped) for *both, dropped in zip(w, r_prime, low, strict=True)]
+    return ring.subtract(ring.add(dot(x, secrets), last), dot(e, r))
+
+
+def is_clear(s, noise):
+    return all(-s.q < 4 * c < s.q for c in noise)
+
+
+# The calls: each takes its inputs by name, at lengths that are right, and gives its outputs and the
+# values that it returns. Of a value that may differ from one correct program to another all right ones
+# are listed, so of every other just one.
+
+def keygen(s, mu, gamma, z):
+    public_key = make_public_key(s, mu, gamma)
+    return {"public_key": public_key, "secret_key": public_key + gamma + z}, {}
+
+
+def encrypt(s, public_key, coins, message):
+    return {"ciphertext": encrypt_padded(s, public_key, coins, pad(s, message))}, {}
+
+
+def decrypt(s, secret_key, ciphertext):
+    coins, padded = decrypt_padded(s, secret_key, ciphertext)
+    message = unpad(padded)
+    refuse(6, message is None)
+    return {"coins": coins, "message": message.ljust(s.message, b"\x00")}, {"message_len": [len(message)]}
+
+
+def encaps(s, public_key, coins):
+    ciphertext = encrypt_padded(s, public_key, coins, pad(s, digest(s, coins)))
+    return {"key": shared_key(s, coins, ciphertext), "ciphertext": ciphertext}, {}
+
+
+def decaps(s, secret_key, ciphertext):
+    coins, padded = decrypt_padded(s, secret_key, ciphertext)
+    refuse(7, padded != pad(s, digest(s, coins)))
+    return {"key": shared_key(s, coins, ciphertext)}, {}
+
+
+def made_seeds(s, secret_key):
+    """mu and gamma of a secret key whose public key they give."""
+    public_key, mu, gamma, _ = split_secret_key(s, secret_key)
+    refuse(8, public_key != make_public_key(s, mu, gamma))
+    return mu, gamma
+
+
+def noise(s, secret_key, coins, message):
+    values = noise_of(s, *made_seeds(s, secret_key), coins, message)
+    return {}, {"clear": [int(is_clear(s, values))], "largest": [ring.largest(values)]}
+
+
+def choose(s, secret_key, message, coins_list):
+    mu, gamma = made_seeds(s, secret_key)
+    coins = cut(coins_list, *[s.coins] * (len(coins_list) // s.coins))
+    places = [i for i, one in enumerate(coins) if is_clear(s, noise_of(s, mu, gamma, one, message))]
+    refuse(9, not places)
+    return {}, {"place": places}
+
+
+@dataclass(frozen=True)
+class Call:
+    """A C call: its slices in the order of its arguments, what it returns besides the status, and the
+    length of its work area."""
+    make: Callable
+    inputs: tuple
+    outputs: tuple = ()
+    values: tuple = ()
+    work: Callable = lambda s: 0
+
+
+def encrypt_work(s):
+    return s.matrix_stream + sum(s.coins_parts)
+
+
+# The calls without a length of a work area are not in the library yet.
+CALLS = {
+    "keygen": Call(keygen, ("mu", "gamma", "z"), ("public_key", "secret_key"),
+                   work=lambda s: s.matrix_stream + s.gamma_stream),
+    "encrypt": Call(encrypt, ("public_key", "coins", "message"), ("ciphertext",), work=encrypt_work),
+    "decrypt": Call(decrypt, ("secret_key", "ciphertext"), ("coins", "message"), ("message_len",)),
+    "encaps": Call(encaps, ("public_key", "coins"), ("key", "ciphertext"), work=encrypt_work),
+    "decaps": Call(decaps, ("secret_key", "ciphertext"), ("key",)),
+    "noise": Call(noise, ("secret_key", "coins", "message"), (), ("clear", "largest")),
+    "choose": Call(choose, ("secret_key", "message", "coins_list"), (), ("place",)),
+}
+
+MOST_COINS = 8
+
+
+def length(s, name):
+    """The exact length of a slice; of a message that goes in, the greatest."""
+    fields = {"mu": s.seed, "gamma": s.seed, "z": s.seed, "key": s.coins}
+    return fields[name] if name in fields else getattr(s, name)
+
+
+def input_fits(s, name, data):
+    """Whether an input passes the check of refusal 2."""
+    if name == "message":
+        return True
+    if name == "coins_list":
+        return len(data) in [count * s.coins for count in range(1, MOST_COINS + 1)]
+    return len(data) == length(s, name)
+
+
+@dataclass(frozen=True)
+class Answer:
+    """All that a call leaves: values has a list of the right ones for each value returned."""
+    status: int
+    values: dict
+    outputs: dict
+    work: bytes
+
+
+def answer(name, s, inputs, outputs, work):
+    """The whole answer of a call with the parameters s, or None for a set that there is none of; the
+    slices are given by name, as they are at entry."""
+    this = CALLS[name]
+    assert tuple(inputs) == this.inputs and tuple(outputs) == this.outputs
+    zeros = {value: [0] for value in this.values}
+    if s is None:
+        return Answer(1, zeros, outputs, work)
+    enough = len(work) >= this.work(s)
+    wiped = bytes(len(work)) if enough else work
+    try:
+        refuse(2, not all(input_fits(s, key, data) for key, data in inputs.items()))
+        refuse(3, len(inputs.get("message", b"")) > s.message)
+        refuse(4, not enough or any(len(data) != length(s, key) for key, data in outputs.items()))
+        made, values = this.make(s, **inputs)
+    except Refused as refusal:
+        return Answer(refusal.number, zeros, outputs, wiped)
+    return Answer(0, values, made, wiped)
+
+
+def call(name, number, inputs, outputs, work):
+    """The whole answer of the C call kindi_name of a set's number."""
+    return answer(name, SETS.get(number), inputs, outputs, work)
+
+
+# The check of this file
+
+# The columns of the paper's table of parameter sets.
+TABLE = {
+    1: (32, 32, 1184, 1248, 1792, 384),
+    2: (64, 64, 1472, 1600, 2496, 384),
+    3: (64, 64, 1728, 1856, 2688, 576),
+    4: (64, 64, 2368, 2496, 3328, 512),
+}
+
+# The lengths of work areas that docs/WORK-AREAS.md lists.
+WORK_TABLE = {1: (4608, 4864, 4864), 2: (3840, 4160, 4160), 3: (4352, 4608, 4608), 4: (8256, 8512, 8512)}
+
+# Sizes at which noise that is not clear is common; coins and seeds differ in length.
+PRACTICE = [
+    Parameters(8, 1, 2, 1, 7, 3, 1, hashlib.shake_128),
+    Parameters(16, 2, 4, 2, 9, 5, 2, hashlib.shake_256),
+    Parameters(8, 3, 2, 2, 8, 2, 1, hashlib.shake_256),
+]
+
+
+def ask(name, s, inputs, work=None):
+    """The answer of a call with outputs of the right lengths, and a work area that is long enough."""
+    this = CALLS[name]
+    outputs = {key: b"\xa5" * length(s, key) for key in this.outputs}
+    work = b"\x5a" * (this.work(s) + 3) if work is None else work
+    got = answer(name, s, dict(zip(this.inputs, inputs, strict=True)), outputs, work)
+    assert got.work == bytes(len(work)), name
+    if got.status:
+        assert got.outputs == outputs and set(map(tuple, got.values.values())) <= {(0,)}, name
+    return got
+
+
+def made_keys(s, rng):
+    got = ask("keygen", s, [rng.randbytes(s.seed) for _ in range(3)])
+    assert got.status == 0
+    return got.outputs["public_key"], got.outputs["secret_key"]
+
+
+def check_lengths():
+    for number, s in SETS.items():
+        found = (s.seed, s.coins, s.public_key, s.secret_key, s.ciphertext, s.padded)
+        assert found == TABLE[number], (number, found)
+        assert tuple(CALLS[name].work(s) for name in ("keygen", "encrypt", "encaps")) == WORK_TABLE[number], number
+
+
+def check_examples():
+    """The paper's examples of the scheme; those of bit strings and products are in ring.py."""
+    assert rounded_bits(2**14, [0, 4095, 4096, 12287, 12288, 16383]) == [0, 0, 1, 1, 0, 0]
+    q, p = 2**14, 4
+    assert shifted_errors(q, p, [[q - 4, 3]]) == [[0, 7]]
+    for wrong in (4, q - 5):
+        assert refusal_of(lambda: shifted_errors(q, p, [[wrong]])) == 5
+    assert drop_low_bits(SETS[1], [16383]) == [4095]
+    for s in [*SETS.values(), *PRACTICE]:
+        assert pad(s, b"") == b"\x01" + bytes(s.padded - 1)
+        assert unpad(pad(s, b"")) == b"" and unpad(bytes(s.padded)) is None and unpad(b"\x01\x02\x00") is None
+        # Strictly between -q/4 and q/4.
+        ends = [-s.q // 4 - 1, -s.q // 4, -s.q // 4 + 1, 0, s.q // 4 - 1, s.q // 4, s.q // 4 + 1]
+        assert [is_clear(s, [0, end]) for end in ends] == [False, False, True, True, True, False, False]
+
+
+def refusal_of(run):
+    try:
+        run()
+    except Refused as refusal:
+        return refusal.number
+    return 0
+
+
+def check_value(s, secret_key, coins, message, ciphertext):
+    """V is g s_1 plus the noise, modulo q, for made keys."""
+    _, mu, gamma, _ = split_secret_key(s, secret_key)
+    first = coins_stream(s, coins)[2][0]
+    expected = [s.g * c + d for c, d in zip(first, noise_of(s, mu, gamma, coins, message), strict=True)]
+    assert difference_value(s, secret_key, ciphertext) == ring.modulo(s.q, expected)
+
+
+def check_pair(s, keys, coins, message):
+    """One pair under made keys: a clear one comes back, as a message and as a shared key. Whether it is
+    clear, and its ciphertext."""
+    public_key, secret_key = keys
+    ciphertext = ask("encrypt", s, (public_key, coins, message)).outputs["ciphertext"]
+    check_value(s, secret_key, coins, message, ciphertext)
+    told = ask("noise", s, (secret_key, coins, message))
+    assert told.status == 0
+    opened = ask("decrypt", s, (secret_key, ciphertext))
+    if told.values["clear"] == [1]:
+        padding = bytes(s.message - len(message))
+        assert (opened.status, opened.values) == (0, {"message_len": [len(message)]})
+        assert opened.outputs == {"coins": coins, "message": message + padding}
+    shared = ask("encaps", s, (public_key, coins)).outputs
+    if ask("noise", s, (secret_key, coins, digest(s, coins))).values["clear"] == [1]:
+        assert ask("decaps", s, (secret_key, shared["ciphertext"])).outputs == {"key": shared["key"]}
+    return told.values["clear"] == [1], ciphertext
+
+
+def check_strict(s, secret_key, ciphertext):
+    """A ciphertext decrypts to a pair just where the recovered coins and a message encrypt to it."""
+    public_key = split_secret_key(s, secret_key)[0]
+    opened = ask("decrypt", s, (secret_key, ciphertext))
+    assert opened.status in (0, 5, 6)
+    if opened.status == 0:
+        message = opened.outputs["message"][:opened.values["message_len"][0]]
+        again = ask("encrypt", s, (public_key, opened.outputs["coins"], message))
+        assert again.outputs == {"ciphertext": ciphertext}
+    shared = ask("decaps", s, (secret_key, ciphertext))
+    assert shared.status in (0, 5, 7)
+    coins = recovered_coins(s, secret_key, ciphertext)
+    same = ask("encaps", s, (public_key, coins)).outputs == {**shared.outputs, "ciphertext": ciphertext}
+    assert same == (shared.status == 0)
+
+
+def check_late_refusals(number, s, rng):
+    """The refusals 5 to 8, each as the paper's table reaches it."""
+    keys = public_key, secret_key = made_keys(s, rng)
+    coins = rng.randbytes(s.coins)
+    clear, ciphertext = check_pair(s, keys, coins, b"")
+    assert clear, number
+    # A coefficient of D raised by 2p whose V stays in its rounding interval.
+    raised = polynomials(s, s.k, ciphertext)
+    values = difference_value(s, secret_key, ciphertext)
+    interval = [(v + s.q // 4) // (s.q // 2) for v in (values[5], values[5] + 2 * s.p)]
+    assert interval[0] == interval[1], number
+    raised[-1][5] += 2 * s.p
+    raised = string(s.k, raised)
+    assert recovered_coins(s, secret_key, raised) == coins
+    assert ask("decrypt", s, (secret_key, raised)).status == 5
+    assert ask("decaps", s, (secret_key, raised)).status == 5
+    blank = encrypt_padded(s, public_key, coins, bytes(s.padded))
+    assert ask("decrypt", s, (secret_key, blank)).status == 6
+    assert ask("decaps", s, (secret_key, ciphertext)).status == 7
+    flipped = bytes([secret_key[0] ^ 1]) + secret_key[1:]
+    assert ask("noise", s, (flipped, coins, b"")).status == 8
+    assert ask("choose", s, (flipped, b"", coins)).status == 8
+    assert ask("choose", s, (secret_key, b"", coins * MOST_COINS)).values == {"place": list(range(MOST_COINS))}
+
+
+def check_early_refusals():
+    """The paper's examples of the refusals 1 to 4, and that the lowest number answers."""
+    s, seed, work = SETS[1], bytes(32), b"\x5a" * 5000
+    outputs = {"public_key": bytes(s.public_key), "secret_key": bytes(s.secret_key)}
+
+    def made(number, mu, gamma, z, room=work):
+        got = call("keygen", number, {"mu": mu, "gamma": gamma, "z": z}, outputs, room)
+        assert got.status == 0 or got.outputs == outputs
+        return got.status, got.work
+
+    assert made(7, seed[1:], seed, seed) == (1, work)
+    assert made(1, seed[1:], seed, seed) == (2, bytes(5000))
+    assert made(1, seed, seed, seed + b"0", work[:4607]) == (2, work[:4607])
+    assert made(1, seed, seed, seed, work[:4607]) == (4, work[:4607])
+    assert made(1, seed, seed, seed, work[:4608]) == (0, bytes(4608))
+    inputs = {"public_key": bytes(s.public_key), "coins": seed, "message": bytes(384)}
+    assert call("encrypt", 1, inputs, {"ciphertext": bytes(1791)}, work).status == 3
+    inputs["message"] = bytes(383)
+    assert call("encrypt", 1, inputs, {"ciphertext": bytes(1791)}, work) == Answer(
+        4, {}, {"ciphertext": bytes(1791)}, bytes(5000))
+    _, secret_key = made_keys(s, random.Random(2))
+    for count, status in ((0, 2), (1, 0), (8, 0), (9, 2)):
+        assert ask("choose", s, (secret_key, b"", seed * count)).status == status
+    for odd in (31, 33, 257):
+        assert ask("choose", s, (secret_key, b"", bytes(odd))).status == 2
+    for name in ("decrypt", "decaps"):
+        assert ask(name, s, (secret_key, bytes(1791))).status == 2
+        assert ask(name, s, (secret_key[1:], bytes(1792))).status == 2
+
+
+def check_practice(s, rng):
+    """Pairs that are clear and pairs that are not, coins to choose from, and ciphertexts that nobody
+    made. Which of the outcomes were met."""
+    met = set()
+    keys = made_keys(s, rng)
+    dull = None
+    for _ in range(40):
+        coins, message = rng.randbytes(s.coins), rng.randbytes(rng.randint(0, s.message))
+        clear, ciphertext = check_pair(s, keys, coins, message)
+        met.add(("clear", clear))
+        if not clear:
+            dull = coins, message
+        damaged = polynomials(s, s.k, ciphertext)
+        for _ in range(rng.randint(0, 2)):
+            damaged[rng.randint(0, s.l)][rng.randrange(s.n)] += rng.choice((-1, 1, 2 * s.p, s.g))
+        check_strict(s, keys[1], string(s.k, damaged))
+        check_strict(s, rng.randbytes(s.secret_key), string(s.k, damaged))
+        several = [rng.randbytes(s.coins) for _ in range(rng.randint(1, MOST_COINS))]
+        got = ask("choose", s, (keys[1], message, b"".join(several)))
+        clears = [i for i, one in enumerate(several)
+                  if ask("noise", s, (keys[1], one, message)).values["clear"] == [1]]
+        assert (got.status, got.values["place"]) == ((0, clears) if clears else (9, [0]))
+    if dull is not None:
+        coins, message = dull
+        assert ask("choose", s, (keys[1], message, coins)).status == 9
+        met.add("refusal 9")
+    return met
+
+
+def check_itself():
+    """A failure is an exception."""
+    rng = random.Random(1)
+    check_lengths()
+    check_examples()
+    check_early_refusals()
+    for number, s in SETS.items():
+        check_late_refusals(number, s, rng)
+        keys = made_keys(s, rng)
+        for size in (1, s.message // 2, s.message):
+            clear, ciphertext = check_pair(s, keys, rng.randbytes(s.coins), rng.randbytes(size))
+            assert clear, number
+            check_strict(s, keys[1], ciphertext)
+    met = set().union(*(check_practice(s, rng) for s in PRACTICE))
+    assert met == {("clear", True), ("clear", False), "refusal 9"}, met
+
+
+if __name__ == "__main__":
+    check_itself()
+    print("the scheme of the second implementation: lengths, examples, round trips and refusals are the paper's")
