@@ -87,6 +87,14 @@ fn cipher_part(p: Params, errors: &[u8], f: &[u16], s: &[u16], acc: &mut [u16], 
     ring::bits::pack(p.k, acc, dst);
 }
 
+// How many polynomials a ciphertext has: C_1 to C_ℓ, and D.
+fn polynomials(p: Params) -> usize
+    requires { ⌜ p .l ≤ 8 ⌝ }
+    ensures { λ r. ⌜ r ≡ p .l + 1 ⌝ }
+{
+    p.l + 1
+}
+
 // The ciphertext, polynomial by polynomial.
 fn cipher_parts(
     p: Params,
@@ -107,10 +115,11 @@ fn cipher_parts(
 {
     let error = lengths::length_of(p, 1, lengths::width(p));
     let part = lengths::length_of(p, 1, p.k);
+    let count = polynomials(p);
     let mut error_at = 0;
     let mut at = 0;
     let mut j = 0;
-    while j < p.l + 1 {
+    while j < count {
         factor(p, pk, rows, low, j, f);
         cipher_part(p, &masked[error_at..], f, s, acc, &mut dst[at..at + part]);
         error_at += error;

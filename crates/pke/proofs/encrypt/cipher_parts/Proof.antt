@@ -23,12 +23,12 @@ use Rattle.pke.proofs.encrypt.cipher_parts.Statement.{statement}
 use Rattle.pke.proofs.encrypt.cipher_parts.Tie as tie
 
 abbrev Inv-loop : tie.InvT-loop
-Inv-loop p pk rows low masked s f₀ acc₀ dst₀ error part error-at₀ at₀ j₀ f acc dst error-at at j =
+Inv-loop p pk rows low masked s f₀ acc₀ dst₀ error part count error-at₀ at₀ j₀ f acc dst error-at at j =
     (j ≤ p .l + 1) × (error-at ≡ lengthOf p j (width p)) × (at ≡ lengthOf p j (p .k)) × (length f ≡ length f₀) × (length acc ≡ length acc₀) × (length dst ≡ length dst₀)
     × (dst ≡ joined j (λ i. pack (p .k) (reduced p (factorBy p pk (matrixIn p rows) (lowIn p low)) (parts (p .n) s) (smallIn p masked) i)) ++ drop at dst₀)
 
 abbrev μ-loop : tie.MeasureT-loop
-μ-loop p pk rows low masked s f₀ acc₀ dst₀ error part error-at₀ at₀ j₀ f acc dst error-at at j = p .l + 1 - j
+μ-loop p pk rows low masked s f₀ acc₀ dst₀ error part count error-at₀ at₀ j₀ f acc dst error-at at j = count - j
 
 width-requires : tie.Need-width-requires Inv-loop μ-loop
 width-requires c κs = c .before .before .before .before .before .before .before .before .pre .factors .room .well
@@ -43,19 +43,19 @@ length-of-requires-2 c κs =
     let W = c .before .before .before .before .before .before .before .before .before .before .pre .factors .room .well in
     (W, omega arith, W .word)
 
+polynomials-requires : tie.Need-polynomials-requires Inv-loop μ-loop
+polynomials-requires c κs = c .before .before .before .before .before .before .before .before .before .before .before .pre .factors .room .well .few
+
 loop-holds : tie.Need-loop-holds Inv-loop μ-loop
 unfolding joined
 loop-holds c =
-    let p = c .before .before .before .before .before .before .before .before .before .before .before .args .p in
+    let p = c .before .before .before .before .before .before .before .before .before .before .before .before .args .p in
     (omega arith, sym (length-none p (width p)), sym (length-none p (p .k)), refl, refl, refl, refl)
-
-add-if1 : tie.Need-add-if1 Inv-loop μ-loop
-add-if1 c = omega (arith, c .before .before .before .before .before .before .before .before .before .before .before .before .before .pre .factors .room .well .few)
 
 factor-requires : tie.Need-factor-requires Inv-loop μ-loop
 factor-requires c κs =
     let pre = c .before .before .before .before .before .before .before .before .before .before .before .before .before .before .before .pre in
-    let h = c .before .before .before .loop in
+    let h = c .before .before .loop in
     record { room = record { well = pre .factors .room .well; stored-there = pre .factors .room .stored-there; low-there = pre .factors .room .low-there; vector-long = h .inv .3 ∙ pre .factors .room .vector-long }; rows-long = pre .factors .rows-long }
 
 sub-cipher-part : tie.Need-sub-cipher-part Inv-loop μ-loop
@@ -64,9 +64,10 @@ sub-cipher-part c =
     let p = a .p in
     let pre = c .before .before .before .before .before .before .before .before .before .before .before .before .before .before .before .before .before .before .pre in
     let W = pre .factors .room .well in
-    let h = c .before .before .before .before .before .before .loop in
-    let fits : lengthOf p (h .j) (width p) + lengthOf p 1 (width p) ≤ paddedLength p = within p (width p) (omega arith) in
-    let inside : lengthOf p (h .j) (p .k) + lengthOf p 1 (p .k) ≤ ciphertextLength p = within p (p .k) (omega arith) in
+    let h = c .before .before .before .before .before .loop in
+    let count = c .before .before .before .before .before .before .polynomials .ensures in
+    let fits : lengthOf p (h .j) (width p) + lengthOf p 1 (width p) ≤ paddedLength p = within p (width p) (omega (arith, count)) in
+    let inside : lengthOf p (h .j) (p .k) + lengthOf p 1 (p .k) ≤ ciphertextLength p = within p (p .k) (omega (arith, count)) in
     let error = c .before .before .before .before .before .before .before .before .length-of .ensures .0 ∙ ap (lengthOf p 1) (c .before .before .before .before .before .before .before .before .before .width .ensures) in
     let part = c .before .before .before .before .before .before .before .length-of2 .ensures .0 in
     let small : ciphertextLength p ≤ 65536 = length-bound p W (omega (arith, W .few)) (W .word) in
@@ -79,9 +80,10 @@ part-cipher-part-start c =
     let p = a .p in
     let pre = c .before .before .before .before .before .before .before .before .before .before .before .before .before .before .before .before .before .before .pre in
     let W = pre .factors .room .well in
-    let h = c .before .before .before .before .before .before .loop in
-    let fits : lengthOf p (h .j) (width p) + lengthOf p 1 (width p) ≤ paddedLength p = within p (width p) (omega arith) in
-    let inside : lengthOf p (h .j) (p .k) + lengthOf p 1 (p .k) ≤ ciphertextLength p = within p (p .k) (omega arith) in
+    let h = c .before .before .before .before .before .loop in
+    let count = c .before .before .before .before .before .before .polynomials .ensures in
+    let fits : lengthOf p (h .j) (width p) + lengthOf p 1 (width p) ≤ paddedLength p = within p (width p) (omega (arith, count)) in
+    let inside : lengthOf p (h .j) (p .k) + lengthOf p 1 (p .k) ≤ ciphertextLength p = within p (p .k) (omega (arith, count)) in
     let error = c .before .before .before .before .before .before .before .before .length-of .ensures .0 ∙ ap (lengthOf p 1) (c .before .before .before .before .before .before .before .before .before .width .ensures) in
     let part = c .before .before .before .before .before .before .before .length-of2 .ensures .0 in
     let small : ciphertextLength p ≤ 65536 = length-bound p W (omega (arith, W .few)) (W .word) in
@@ -97,9 +99,10 @@ add-cipher-part c =
     let p = a .p in
     let pre = c .before .before .before .before .before .before .before .before .before .before .before .before .before .before .before .before .before .before .before .before .before .pre in
     let W = pre .factors .room .well in
-    let h = c .before .before .before .before .before .before .before .before .before .loop in
-    let fits : lengthOf p (h .j) (width p) + lengthOf p 1 (width p) ≤ paddedLength p = within p (width p) (omega arith) in
-    let inside : lengthOf p (h .j) (p .k) + lengthOf p 1 (p .k) ≤ ciphertextLength p = within p (p .k) (omega arith) in
+    let h = c .before .before .before .before .before .before .before .before .loop in
+    let count = c .before .before .before .before .before .before .before .before .before .polynomials .ensures in
+    let fits : lengthOf p (h .j) (width p) + lengthOf p 1 (width p) ≤ paddedLength p = within p (width p) (omega (arith, count)) in
+    let inside : lengthOf p (h .j) (p .k) + lengthOf p 1 (p .k) ≤ ciphertextLength p = within p (p .k) (omega (arith, count)) in
     let error = c .before .before .before .before .before .before .before .before .before .before .before .length-of .ensures .0 ∙ ap (lengthOf p 1) (c .before .before .before .before .before .before .before .before .before .before .before .before .width .ensures) in
     let part = c .before .before .before .before .before .before .before .before .before .before .length-of2 .ensures .0 in
     let small : ciphertextLength p ≤ 65536 = length-bound p W (omega (arith, W .few)) (W .word) in
@@ -118,9 +121,10 @@ part-cipher-part-end-2 c =
     let p = a .p in
     let pre = c .before .before .before .before .before .before .before .before .before .before .before .before .before .before .before .before .before .before .before .before .before .pre in
     let W = pre .factors .room .well in
-    let h = c .before .before .before .before .before .before .before .before .before .loop in
-    let fits : lengthOf p (h .j) (width p) + lengthOf p 1 (width p) ≤ paddedLength p = within p (width p) (omega arith) in
-    let inside : lengthOf p (h .j) (p .k) + lengthOf p 1 (p .k) ≤ ciphertextLength p = within p (p .k) (omega arith) in
+    let h = c .before .before .before .before .before .before .before .before .loop in
+    let count = c .before .before .before .before .before .before .before .before .before .polynomials .ensures in
+    let fits : lengthOf p (h .j) (width p) + lengthOf p 1 (width p) ≤ paddedLength p = within p (width p) (omega (arith, count)) in
+    let inside : lengthOf p (h .j) (p .k) + lengthOf p 1 (p .k) ≤ ciphertextLength p = within p (p .k) (omega (arith, count)) in
     let error = c .before .before .before .before .before .before .before .before .before .before .before .length-of .ensures .0 ∙ ap (lengthOf p 1) (c .before .before .before .before .before .before .before .before .before .before .before .before .width .ensures) in
     let part = c .before .before .before .before .before .before .before .before .before .before .length-of2 .ensures .0 in
     let small : ciphertextLength p ≤ 65536 = length-bound p W (omega (arith, W .few)) (W .word) in
@@ -133,9 +137,10 @@ cipher-part-requires c κs =
     let p = a .p in
     let pre = c .before .before .before .before .before .before .before .before .before .before .before .before .before .before .before .before .before .before .before .before .before .before .pre in
     let W = pre .factors .room .well in
-    let h = c .before .before .before .before .before .before .before .before .before .before .loop in
-    let fits : lengthOf p (h .j) (width p) + lengthOf p 1 (width p) ≤ paddedLength p = within p (width p) (omega arith) in
-    let inside : lengthOf p (h .j) (p .k) + lengthOf p 1 (p .k) ≤ ciphertextLength p = within p (p .k) (omega arith) in
+    let h = c .before .before .before .before .before .before .before .before .before .loop in
+    let count = c .before .before .before .before .before .before .before .before .before .before .polynomials .ensures in
+    let fits : lengthOf p (h .j) (width p) + lengthOf p 1 (width p) ≤ paddedLength p = within p (width p) (omega (arith, count)) in
+    let inside : lengthOf p (h .j) (p .k) + lengthOf p 1 (p .k) ≤ ciphertextLength p = within p (p .k) (omega (arith, count)) in
     let error = c .before .before .before .before .before .before .before .before .before .before .before .before .length-of .ensures .0 ∙ ap (lengthOf p 1) (c .before .before .before .before .before .before .before .before .before .before .before .before .before .width .ensures) in
     let part = c .before .before .before .before .before .before .before .before .before .before .before .length-of2 .ensures .0 in
     let small : ciphertextLength p ≤ 65536 = length-bound p W (omega (arith, W .few)) (W .word) in
@@ -151,9 +156,10 @@ add-error-at c =
     let p = a .p in
     let pre = c .before .before .before .before .before .before .before .before .before .before .before .before .before .before .before .before .before .before .before .before .before .before .before .before .before .before .before .pre in
     let W = pre .factors .room .well in
-    let h = c .before .before .before .before .before .before .before .before .before .before .before .before .before .before .before .loop in
-    let fits : lengthOf p (h .j) (width p) + lengthOf p 1 (width p) ≤ paddedLength p = within p (width p) (omega arith) in
-    let inside : lengthOf p (h .j) (p .k) + lengthOf p 1 (p .k) ≤ ciphertextLength p = within p (p .k) (omega arith) in
+    let h = c .before .before .before .before .before .before .before .before .before .before .before .before .before .before .loop in
+    let count = c .before .before .before .before .before .before .before .before .before .before .before .before .before .before .before .polynomials .ensures in
+    let fits : lengthOf p (h .j) (width p) + lengthOf p 1 (width p) ≤ paddedLength p = within p (width p) (omega (arith, count)) in
+    let inside : lengthOf p (h .j) (p .k) + lengthOf p 1 (p .k) ≤ ciphertextLength p = within p (p .k) (omega (arith, count)) in
     let error = c .before .before .before .before .before .before .before .before .before .before .before .before .before .before .before .before .before .length-of .ensures .0 ∙ ap (lengthOf p 1) (c .before .before .before .before .before .before .before .before .before .before .before .before .before .before .before .before .before .before .width .ensures) in
     let part = c .before .before .before .before .before .before .before .before .before .before .before .before .before .before .before .before .length-of2 .ensures .0 in
     let small : ciphertextLength p ≤ 65536 = length-bound p W (omega (arith, W .few)) (W .word) in
@@ -166,9 +172,10 @@ add-at c =
     let p = a .p in
     let pre = c .before .before .before .before .before .before .before .before .before .before .before .before .before .before .before .before .before .before .before .before .before .before .before .before .before .before .before .pre in
     let W = pre .factors .room .well in
-    let h = c .before .before .before .before .before .before .before .before .before .before .before .before .before .before .before .loop in
-    let fits : lengthOf p (h .j) (width p) + lengthOf p 1 (width p) ≤ paddedLength p = within p (width p) (omega arith) in
-    let inside : lengthOf p (h .j) (p .k) + lengthOf p 1 (p .k) ≤ ciphertextLength p = within p (p .k) (omega arith) in
+    let h = c .before .before .before .before .before .before .before .before .before .before .before .before .before .before .loop in
+    let count = c .before .before .before .before .before .before .before .before .before .before .before .before .before .before .before .polynomials .ensures in
+    let fits : lengthOf p (h .j) (width p) + lengthOf p 1 (width p) ≤ paddedLength p = within p (width p) (omega (arith, count)) in
+    let inside : lengthOf p (h .j) (p .k) + lengthOf p 1 (p .k) ≤ ciphertextLength p = within p (p .k) (omega (arith, count)) in
     let error = c .before .before .before .before .before .before .before .before .before .before .before .before .before .before .before .before .before .length-of .ensures .0 ∙ ap (lengthOf p 1) (c .before .before .before .before .before .before .before .before .before .before .before .before .before .before .before .before .before .before .width .ensures) in
     let part = c .before .before .before .before .before .before .before .before .before .before .before .before .before .before .before .before .length-of2 .ensures .0 in
     let small : ciphertextLength p ≤ 65536 = length-bound p W (omega (arith, W .few)) (W .word) in
@@ -181,14 +188,15 @@ add-j c =
     let p = a .p in
     let pre = c .before .before .before .before .before .before .before .before .before .before .before .before .before .before .before .before .before .before .before .before .before .before .before .before .before .before .before .pre in
     let W = pre .factors .room .well in
-    let h = c .before .before .before .before .before .before .before .before .before .before .before .before .before .before .before .loop in
-    let fits : lengthOf p (h .j) (width p) + lengthOf p 1 (width p) ≤ paddedLength p = within p (width p) (omega arith) in
-    let inside : lengthOf p (h .j) (p .k) + lengthOf p 1 (p .k) ≤ ciphertextLength p = within p (p .k) (omega arith) in
+    let h = c .before .before .before .before .before .before .before .before .before .before .before .before .before .before .loop in
+    let count = c .before .before .before .before .before .before .before .before .before .before .before .before .before .before .before .polynomials .ensures in
+    let fits : lengthOf p (h .j) (width p) + lengthOf p 1 (width p) ≤ paddedLength p = within p (width p) (omega (arith, count)) in
+    let inside : lengthOf p (h .j) (p .k) + lengthOf p 1 (p .k) ≤ ciphertextLength p = within p (p .k) (omega (arith, count)) in
     let error = c .before .before .before .before .before .before .before .before .before .before .before .before .before .before .before .before .before .length-of .ensures .0 ∙ ap (lengthOf p 1) (c .before .before .before .before .before .before .before .before .before .before .before .before .before .before .before .before .before .before .width .ensures) in
     let part = c .before .before .before .before .before .before .before .before .before .before .before .before .before .before .before .before .length-of2 .ensures .0 in
     let small : ciphertextLength p ≤ 65536 = length-bound p W (omega (arith, W .few)) (W .word) in
     let little : paddedLength p ≤ 65536 = length-bound p W (omega (arith, W .few)) (width-bound p W) in
-    omega (arith, W .few)
+    omega (arith, W .few, count)
 
 loop-less : tie.Need-loop-less Inv-loop μ-loop
 loop-less c = turn-less (omega arith)
@@ -199,9 +207,10 @@ loop-again c =
     let p = a .p in
     let pre = c .before .before .before .before .before .before .before .before .before .before .before .before .before .before .before .before .before .before .before .before .before .before .before .before .before .before .before .pre in
     let W = pre .factors .room .well in
-    let h = c .before .before .before .before .before .before .before .before .before .before .before .before .before .before .before .loop in
-    let fits : lengthOf p (h .j) (width p) + lengthOf p 1 (width p) ≤ paddedLength p = within p (width p) (omega arith) in
-    let inside : lengthOf p (h .j) (p .k) + lengthOf p 1 (p .k) ≤ ciphertextLength p = within p (p .k) (omega arith) in
+    let h = c .before .before .before .before .before .before .before .before .before .before .before .before .before .before .loop in
+    let count = c .before .before .before .before .before .before .before .before .before .before .before .before .before .before .before .polynomials .ensures in
+    let fits : lengthOf p (h .j) (width p) + lengthOf p 1 (width p) ≤ paddedLength p = within p (width p) (omega (arith, count)) in
+    let inside : lengthOf p (h .j) (p .k) + lengthOf p 1 (p .k) ≤ ciphertextLength p = within p (p .k) (omega (arith, count)) in
     let error = c .before .before .before .before .before .before .before .before .before .before .before .before .before .before .before .before .before .length-of .ensures .0 ∙ ap (lengthOf p 1) (c .before .before .before .before .before .before .before .before .before .before .before .before .before .before .before .before .before .before .width .ensures) in
     let part = c .before .before .before .before .before .before .before .before .before .before .before .before .before .before .before .before .length-of2 .ensures .0 in
     let small : ciphertextLength p ≤ 65536 = length-bound p W (omega (arith, W .few)) (W .word) in
@@ -210,7 +219,7 @@ loop-again c =
     let parts-of : ℕ → List ℕ = λ i. pack (p .k) (residues (modulus p) (p .n) (g i)) in
     let part-len = c .before .before .before .before .before .before .before .before .before .before .before .before .before .before .before .before .length-of2 .result in
     let bytes : Below 256 (now (a .masked)) = λ x. c .before .before .before .before .before .before .before .before .before .before .before .before .before .before .before .before .before .before .before .before .before .before .before .shared-slice-known4 .given x .fits in (
-      omega arith,
+      omega (arith, count),
       ap₂ _+_ (h .inv .1) error ∙ sym (length-add p (h .j) 1 (width p)),
       ap₂ _+_ (h .inv .2) part ∙ sym (length-add p (h .j) 1 (p .k)),
       c .before .before .before .before .before .before .before .before .before .before .before .factor .kept .1 .1 .1 .1 .1 .0 ∙ h .inv .3,
@@ -221,23 +230,23 @@ loop-again c =
     )
 
 same-length : tie.Need-same-length Inv-loop μ-loop
-same-length c = c .before .before .loop .inv .3
+same-length c = c .before .loop .inv .3
 
 same-length-2 : tie.Need-same-length-2 Inv-loop μ-loop
-same-length-2 c = c .before .before .loop .inv .4
+same-length-2 c = c .before .loop .inv .4
 
 same-length-3 : tie.Need-same-length-3 Inv-loop μ-loop
-same-length-3 c = c .before .before .loop .inv .5
+same-length-3 c = c .before .loop .inv .5
 
 returns : tie.Need-returns Inv-loop μ-loop
 returns c =
     let a = c .before .before .before .before .before .before .before .before .before .before .before .before .before .before .args in
     let p = a .p in
     let pre = c .before .before .before .before .before .before .before .before .before .before .before .before .before .before .pre in
-    let h = c .before .before .loop in
+    let h = c .before .loop in
     let g : ℕ → Poly = λ i. plus (dot (p .l) (p .n) (factorBy p (now (a .pk)) (matrixIn p (now (a .rows))) (lowIn p (now (a .low))) i) (parts (p .n) (now (a .s)))) (smallIn p (now (a .masked)) i) in
     let parts-of : ℕ → List ℕ = λ i. pack (p .k) (residues (modulus p) (p .n) (g i)) in
-    let all : h .j ≡ p .l + 1 = omega arith in
+    let all : h .j ≡ p .l + 1 = omega (arith, c .before .before .polynomials .ensures) in
     joined-end (h .j) (h .at) parts-of (now (a .dst)) (h .dst) (rw (h .inv .2, all) (omega (arith, pre .cipher-long))) (h .inv .6) ∙ ap (λ (m : ℕ). joined m parts-of) all
 
 pub cipher-parts-spec : {M : Type 1} → statement M
@@ -249,8 +258,8 @@ cipher-parts-spec =
     width-requires
     length-of-requires
     length-of-requires-2
+    polynomials-requires
     loop-holds
-    add-if1
     factor-requires
     sub-cipher-part
     part-cipher-part-start
