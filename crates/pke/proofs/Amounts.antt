@@ -8,7 +8,7 @@ use mathlib.Core.List.{List, _++_}
 use lib.ListN.{length, take, drop, length-append, length-take, length-drop}
 use Rattle.hash.proofs.Parts.{take-rest}
 use Rattle.ring.specs.Bits.{bytesFor}
-use Rattle.ring.specs.Coefficients.{Vectors}
+use Rattle.product.specs.Dots.{Vectors}
 use Rattle.kindi.specs.declared.Params.{Params}
 use Rattle.kindi.specs.Params.{WellFormed, half, width, lengthOf}
 use Rattle.kindi.proofs.Strings.{whole-bytes}

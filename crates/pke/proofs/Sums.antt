@@ -7,7 +7,7 @@ use lib.ListN.{length}
 use Rattle.ring.specs.Bits.{lowBits}
 use Rattle.ring.specs.Integers.{Cong}
 use Rattle.ring.specs.Poly.{Poly, plus, dot, parts, ofNats, residues}
-use Rattle.ring.specs.Coefficients.{withDot}
+use Rattle.product.specs.Dots.{withDot}
 use Rattle.ring.proofs.Modular.{cong-add, cong-refl, cong-of-eq, cong-trans}
 use Rattle.ring.proofs.Residues.{residues-low, residues-cong, ofNats-residues, length-residues}
 use Rattle.ring.proofs.Ring.{dot-cong}

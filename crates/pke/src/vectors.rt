@@ -10,9 +10,9 @@ ghost use Rattle.pke.specs.Vectors.{raised, sumPart};
 ghost use Rattle.pke.specs.Inputs.{Rows};
 use crate::lengths::width;
 use kindi::Params;
+use product::dot_add;
 use ring::bits::unpack;
 use ring::poly::centre;
-use ring::poly::dot_add;
 
 pub fn zeros() -> [u16; 1536] {
     [0; 1536]

@@ -8,7 +8,6 @@ pub mod Sums
 pub mod Ring
 pub mod Residues
 pub mod Product
-pub mod Dots
 pub mod Sizes
 pub mod Reversal
 pub mod Examples

@@ -79,7 +79,7 @@ unfolding rows mul
 rows-all q n f a b = refl
 
 -- Four rows more.
-rows-four : (n : ℕ) (f a b : Poly) (i k : ℕ) → rows n f a b (i + 4) k ≡ rows n f a b i k +ℤ a i *ℤ shifted n b i k
+pub rows-four : (n : ℕ) (f a b : Poly) (i k : ℕ) → rows n f a b (i + 4) k ≡ rows n f a b i k +ℤ a i *ℤ shifted n b i k
     +ℤ a (i + 1) *ℤ shifted n b (i + 1) k
     +ℤ a (i + 2) *ℤ shifted n b (i + 2) k
     +ℤ a (i + 3) *ℤ shifted n b (i + 3) k
@@ -94,7 +94,7 @@ word-product {a} {b} ha hb =
     mul-le-mul la lb
 
 -- A term more.
-term-more : {acc r : ℕ} (a : ℕ) (x : ℤ) {y : ℤ} → acc ≡ residue 65536 x → Cong 65536 (pos r) y
+pub term-more : {acc r : ℕ} (a : ℕ) (x : ℤ) {y : ℤ} → acc ≡ residue 65536 x → Cong 65536 (pos r) y
     → addTerm acc a r ≡ residue 65536 (x +ℤ pos a *ℤ y)
 term-more {acc} {r} a x {y} e c =
     ap (λ (m : ℕ). addTerm m a r) e ∙ residue-term {q = 65536} (suc-le-suc zero-le) a r x y c

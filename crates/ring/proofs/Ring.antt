@@ -72,7 +72,7 @@ shifted-plus n b c i k = go (leb i k) (b (k - i)) (b (n + k - i)) (c (k - i)) (c
     go true x y x' y' = refl
     go false x y x' y' = negℤ-+ℤ y y'
 
-shifted-scale : (n : ℕ) (c : ℤ) (b : Poly) (i k : ℕ) → shifted n (λ j. c *ℤ b j) i k ≡ c *ℤ shifted n b i k
+pub shifted-scale : (n : ℕ) (c : ℤ) (b : Poly) (i k : ℕ) → shifted n (λ j. c *ℤ b j) i k ≡ c *ℤ shifted n b i k
 unfolding shifted
 shifted-scale n c b i k = go (leb i k) (b (k - i)) (b (n + k - i))
   where
@@ -88,7 +88,7 @@ shifted-neg n b i k = go (leb i k) (b (k - i)) (b (n + k - i))
     go true x y = refl
     go false x y = refl
 
-shifted-sum : (n m : ℕ) (f : ℕ → Poly) (i k : ℕ) → shifted n (λ l. sum m (λ j. f j l)) i k ≡ sum m (λ j. shifted n (f j) i k)
+pub shifted-sum : (n m : ℕ) (f : ℕ → Poly) (i k : ℕ) → shifted n (λ l. sum m (λ j. f j l)) i k ≡ sum m (λ j. shifted n (f j) i k)
 unfolding shifted
 shifted-sum n m f i k = go (leb i k) (λ j. f j (k - i)) (λ j. f j (n + k - i))
   where

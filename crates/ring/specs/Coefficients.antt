@@ -7,7 +7,7 @@ use lib.IntN.{ℤ}
 use lib.ListN.{length, getD}
 use Rattle.hash.specs.Lists.{tabulate}
 use Rattle.ring.specs.Integers.{centred, largest}
-use Rattle.ring.specs.Poly.{plus, minus, mul, dot, ofNats, ofInts, residues, parts}
+use Rattle.ring.specs.Poly.{plus, minus, mul, ofNats, ofInts, residues}
 
 -- Two factors and a sum of one length, which is a multiple of 4 up to 512.
 pub record Factors (acc a b : List ℕ) : Type 0 where
@@ -19,18 +19,6 @@ pub record Factors (acc a b : List ℕ) : Type 0 where
 -- acc + a·b modulo 2^16.
 abbrev pub withProduct : List ℕ → List ℕ → List ℕ → List ℕ
 withProduct acc a b = residues 65536 (length acc) (plus (ofNats acc) (mul (length acc) (ofNats a) (ofNats b)))
-
--- Two vectors of m polynomials, one after another, and a sum, of a length that products take.
-pub record Vectors (m : ℕ) (acc f s : List ℕ) : Type 0 where
-  pub first : length f ≡ m * length acc
-  pub second : length s ≡ m * length acc
-  pub fours : length acc % 4 ≡ 0
-  pub short : length acc ≤ 512
-  pub few : m ≤ 8
-
--- acc plus the sum of the first m products f_i·s_i, modulo 2^16.
-unfoldable pub withDot : ℕ → List ℕ → List ℕ → List ℕ → List ℕ
-withDot m acc f s = residues 65536 (length acc) (plus (ofNats acc) (dot m (length acc) (parts (length acc) f) (parts (length acc) s)))
 
 -- a + b and a − b modulo 2^16.
 abbrev pub added : List ℕ → List ℕ → List ℕ

@@ -6,11 +6,11 @@ ghost use lib.ListN.{length};
 ghost use Rattle.hash.specs.Lists.{tabulate};
 ghost use Rattle.ring.specs.Integers.{residue};
 ghost use Rattle.ring.specs.Poly.{ofNats, residues};
-ghost use Rattle.ring.specs.Coefficients.{Factors, withProduct, Vectors, withDot, added, subtracted, centredWords};
+ghost use Rattle.ring.specs.Coefficients.{Factors, withProduct, added, subtracted, centredWords};
 ghost use Rattle.ring.specs.Terms.{addTerm, addFour, doubled};
 
 // A term more, modulo 2^16.
-fn add_term(acc: u16, a: u16, b: u16) -> u16
+pub fn add_term(acc: u16, a: u16, b: u16) -> u16
     ensures { λ r. ⌜ r ≡ addTerm acc a b ⌝ }
 {
     ((acc as u32 + a as u32 * b as u32) % 65536) as u16
@@ -29,13 +29,13 @@ fn add_rows(acc: &mut [u16], row: &[u16], a: u16, b: u16, c: u16, d: u16)
     }
 }
 
-fn sum(a: u16, b: u16) -> u16
+pub fn sum(a: u16, b: u16) -> u16
     ensures { λ r. ⌜ r ≡ residue 65536 (pos a +ℤ pos b) ⌝ }
 {
     ((a as u32 + b as u32) % 65536) as u16
 }
 
-fn difference(a: u16, b: u16) -> u16
+pub fn difference(a: u16, b: u16) -> u16
     ensures { λ r. ⌜ r ≡ residue 65536 (pos a -ℤ pos b) ⌝ }
 {
     ((a as u32 + (65536 - b as u32)) % 65536) as u16
@@ -64,7 +64,7 @@ fn copy(src: &[u16], dst: &mut [u16])
 }
 
 // −b and then b: from place n − i on stand the coefficients of X^i times b.
-fn double(b: &[u16], row: &mut [u16])
+pub fn double(b: &[u16], row: &mut [u16])
     requires { ⌜ length (now row) ≡ 2 * length (now b) ⌝ }
     ensures { λ _. ⌜ now (row .exit) ≡ doubled (now (b .entry)) ⌝ }
 {
@@ -96,21 +96,6 @@ pub fn multiply_add(acc: &mut [u16], a: &[u16], b: &[u16])
             a[i + 3],
         );
         i += 4;
-    }
-}
-
-// acc + the sum of f_i·s_i over two vectors of m polynomials, one after another.
-pub fn dot_add(acc: &mut [u16], f: &[u16], s: &[u16], m: usize)
-    requires { ⌜ Vectors m (now acc) (now f) (now s) ⌝ }
-    ensures { λ _. ⌜ now (acc .exit) ≡ withDot m (now (acc .entry)) (now (f .entry)) (now (s .entry)) ⌝ }
-{
-    let n = acc.len();
-    let mut at = 0;
-    let mut i = 0;
-    while i < m {
-        multiply_add(acc, &f[at..at + n], &s[at..at + n]);
-        at += n;
-        i += 1;
     }
 }
 

@@ -1,9 +1,9 @@
--- `ring::poly::dot_add` meets its contract: after i turns the first i products are added.
+-- `product::dot_add` meets its contract: after i turns the first i products are added.
 -- Assumes nothing.
-use Rattle.ring.proofs.Dots.{dot-none, dot-turn, part-factors, row-fits, rows-few}
+use Rattle.product.proofs.Dots.{dot-none, dot-turn, part-factors, row-fits, rows-few}
 use Rattle.ring.proofs.Filling.{turn-less}
-use Rattle.ring.specs.Coefficients.{withDot}
+use Rattle.product.specs.Dots.{withDot}
 use Rattle.ring.specs.Bits.{Below}
 use lib.ListN.{length}
 use denote.Ref.{now}
 use native.Mathlib.Numerals.{add-one}
@@ -11,8 +11,8 @@ use native.Mathlib.Nat.{zero-mul, suc-mul}
 use native.Mathlib.Omega.{arith}
 use Prim.Native.Nat.{ℕ, _+_, _*_, _-_, _≤_}
 use mathlib.Core.Path.{_≡_, refl, sym, ap, _∙_}
-use Rattle.ring.proofs.poly.dot_add.Statement.{statement}
-use Rattle.ring.proofs.poly.dot_add.Tie as tie
+use Rattle.product.proofs.dot_add.Statement.{statement}
+use Rattle.product.proofs.dot_add.Tie as tie
 
 abbrev Inv-loop : tie.InvT-loop
 Inv-loop acc₀ f s m n at₀ i₀ acc at i = (i ≤ m) × (at ≡ i * length acc₀) × (length acc ≡ length acc₀) × (acc ≡ withDot i acc₀ f s)
@@ -26,8 +26,8 @@ loop-holds c =
     let words : Below 65536 (now (a .acc)) = λ i. c .before .before .slice-known .given i .fits in
     (omega arith, sym (zero-mul _), refl, dot-none (now (a .acc)) (now (a .f)) (now (a .s)) words)
 
-add-multiply-add : tie.Need-add-multiply-add Inv-loop μ-loop
-add-multiply-add c =
+add-multiply : tie.Need-add-multiply Inv-loop μ-loop
+add-multiply c =
     let a = c .before .before .before .before .before .before .args in
     let n : ℕ = length (now (a .acc)) in
     let h = c .before .before .loop in
@@ -35,8 +35,8 @@ add-multiply-add c =
     let few : a .m * n ≤ 4096 = rows-few (omega arith) (omega arith) in
     omega arith
 
-mul-multiply-add : tie.Need-mul-multiply-add Inv-loop μ-loop
-mul-multiply-add c =
+mul-multiply : tie.Need-mul-multiply Inv-loop μ-loop
+mul-multiply c =
     let a = c .before .before .before .before .before .before .args in
     let n : ℕ = length (now (a .acc)) in
     let h = c .before .before .loop in
@@ -44,14 +44,14 @@ mul-multiply-add c =
     let few : a .m * n ≤ 4096 = rows-few (omega arith) (omega arith) in
     omega arith
 
-sub-multiply-add : tie.Need-sub-multiply-add Inv-loop μ-loop
-sub-multiply-add c = omega arith
+sub-multiply : tie.Need-sub-multiply Inv-loop μ-loop
+sub-multiply c = omega arith
 
-part-multiply-add-start : tie.Need-part-multiply-add-start Inv-loop μ-loop
-part-multiply-add-start c = omega arith
+part-multiply-start : tie.Need-part-multiply-start Inv-loop μ-loop
+part-multiply-start c = omega arith
 
-part-multiply-add-end : tie.Need-part-multiply-add-end Inv-loop μ-loop
-part-multiply-add-end c =
+part-multiply-end : tie.Need-part-multiply-end Inv-loop μ-loop
+part-multiply-end c =
     let a = c .before .before .before .before .before .before .args in
     let n : ℕ = length (now (a .acc)) in
     let h = c .before .before .loop in
@@ -59,8 +59,8 @@ part-multiply-add-end c =
     let few : a .m * n ≤ 4096 = rows-few (omega arith) (omega arith) in
     omega arith
 
-add-multiply-add-2 : tie.Need-add-multiply-add-2 Inv-loop μ-loop
-add-multiply-add-2 c =
+add-multiply-2 : tie.Need-add-multiply-2 Inv-loop μ-loop
+add-multiply-2 c =
     let a = c .before .before .before .before .before .before .before .args in
     let n : ℕ = length (now (a .acc)) in
     let h = c .before .before .before .loop in
@@ -68,8 +68,8 @@ add-multiply-add-2 c =
     let few : a .m * n ≤ 4096 = rows-few (omega arith) (omega arith) in
     omega arith
 
-mul-multiply-add-2 : tie.Need-mul-multiply-add-2 Inv-loop μ-loop
-mul-multiply-add-2 c =
+mul-multiply-2 : tie.Need-mul-multiply-2 Inv-loop μ-loop
+mul-multiply-2 c =
     let a = c .before .before .before .before .before .before .before .args in
     let n : ℕ = length (now (a .acc)) in
     let h = c .before .before .before .loop in
@@ -77,14 +77,14 @@ mul-multiply-add-2 c =
     let few : a .m * n ≤ 4096 = rows-few (omega arith) (omega arith) in
     omega arith
 
-sub-multiply-add-2 : tie.Need-sub-multiply-add-2 Inv-loop μ-loop
-sub-multiply-add-2 c = omega arith
+sub-multiply-2 : tie.Need-sub-multiply-2 Inv-loop μ-loop
+sub-multiply-2 c = omega arith
 
-part-multiply-add-start-2 : tie.Need-part-multiply-add-start-2 Inv-loop μ-loop
-part-multiply-add-start-2 c = omega arith
+part-multiply-start-2 : tie.Need-part-multiply-start-2 Inv-loop μ-loop
+part-multiply-start-2 c = omega arith
 
-part-multiply-add-end-2 : tie.Need-part-multiply-add-end-2 Inv-loop μ-loop
-part-multiply-add-end-2 c =
+part-multiply-end-2 : tie.Need-part-multiply-end-2 Inv-loop μ-loop
+part-multiply-end-2 c =
     let a = c .before .before .before .before .before .before .before .args in
     let n : ℕ = length (now (a .acc)) in
     let h = c .before .before .before .loop in
@@ -92,8 +92,8 @@ part-multiply-add-end-2 c =
     let few : a .m * n ≤ 4096 = rows-few (omega arith) (omega arith) in
     omega arith
 
-multiply-add-requires : tie.Need-multiply-add-requires Inv-loop μ-loop
-multiply-add-requires c κs =
+multiply-requires : tie.Need-multiply-requires Inv-loop μ-loop
+multiply-requires c κs =
     let a = c .before .before .before .before .before .before .before .before .args in
     let h = c .before .before .before .before .loop in
     part-factors (a .m) (h .i) (h .at) (now (a .acc)) (h .acc) (now (a .f)) (now (a .s)) (c .before .before .before .before .before .before .before .before .pre) (omega arith) (h .inv .1) (h .inv .2)
@@ -119,8 +119,8 @@ loop-again c =
     let h = c .before .before .before .before .before .before .before .loop in (
       omega arith,
       rw add-one (rw suc-mul (ap (λ (m : ℕ). m + length (now (a .acc))) (h .inv .1))),
-      c .before .before .multiply-add .kept .0 ∙ h .inv .2,
-      dot-turn (h .i) (h .at) (now (a .acc)) (h .acc) _ (now (a .f)) (now (a .s)) (h .inv .2) (h .inv .1) (h .inv .3) (c .before .before .multiply-add .ensures),
+      c .before .before .multiply .kept .0 ∙ h .inv .2,
+      dot-turn (h .i) (h .at) (now (a .acc)) (h .acc) _ (now (a .f)) (now (a .s)) (h .inv .2) (h .inv .1) (h .inv .3) (c .before .before .multiply .ensures),
     )
 
 same-length : tie.Need-same-length Inv-loop μ-loop
@@ -140,17 +140,17 @@ dot-add-spec =
     Inv-loop
     μ-loop
     loop-holds
-    add-multiply-add
-    mul-multiply-add
-    sub-multiply-add
-    part-multiply-add-start
-    part-multiply-add-end
-    add-multiply-add-2
-    mul-multiply-add-2
-    sub-multiply-add-2
-    part-multiply-add-start-2
-    part-multiply-add-end-2
-    multiply-add-requires
+    add-multiply
+    mul-multiply
+    sub-multiply
+    part-multiply-start
+    part-multiply-end
+    add-multiply-2
+    mul-multiply-2
+    sub-multiply-2
+    part-multiply-start-2
+    part-multiply-end-2
+    multiply-requires
     add-at
     add-i
     loop-less

@@ -8,12 +8,13 @@ use native.Mathlib.Omega.{arith}
 use lib.IntN.{pos, _+ℤ_, +ℤ-assoc, +ℤ-idr}
 use lib.ListN.{length, getD, take, drop, length-take, length-drop}
 use lib.Seq.{getD-take, getD-drop}
 use Rattle.ring.specs.Bits.{Below}
 use Rattle.ring.specs.Poly.{Poly, sum, plus, mul, dot, parts, ofNats, residues}
-use Rattle.ring.specs.Coefficients.{Factors, withProduct, Vectors, withDot}
+use Rattle.ring.specs.Coefficients.{Factors, withProduct}
+use Rattle.product.specs.Dots.{Vectors, withDot}
 use Rattle.ring.proofs.Modular.{cong-add, cong-of-eq, cong-trans}
 use Rattle.ring.proofs.Residues.{residues-ext, residues-cong, residues-of-list, ofNats-residues}
 use Rattle.ring.proofs.Ring.{mul-ext}
 
 -- No product is added yet.
 pub dot-none : (acc f s : List ℕ) → Below 65536 acc → acc ≡ withDot 0 acc f s
