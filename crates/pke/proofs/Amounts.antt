@@ -91,10 +91,6 @@ half-power P W = halves (P .k) (W .quarters)
 pub within : (P : Params) {a m : ℕ} (w : ℕ) → a < m → lengthOf P a w + lengthOf P 1 w ≤ lengthOf P m w
 within P {a} {m} w h = rw (sym (length-add P a 1 w)) (length-le P w (rw (add-one a) h))
 
--- Part i lies within m parts of n entries.
-pub row-fits : {i m : ℕ} (n : ℕ) → i < m → i * n + n ≤ m * n
-row-fits {i} {m} n h = omega (arith, mul-le-mul-right n h, suc-mul i n)
-
 -- m polynomials are read within the rest of a string.
 pub reads-rest : (P : Params) → WellFormed P → (m w : ℕ) {a : ℕ} (from : ℕ) (bytes : List ℕ) → a ≡ m * P .n
     → from + lengthOf P m w ≤ length bytes → w * a ≤ 8 * length (take (length bytes - from) (drop from bytes))

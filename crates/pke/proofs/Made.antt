@@ -25,7 +25,7 @@ use Rattle.kindi.specs.Keys.{compress, joined, publicBy, public, publicKey, sec
 use Rattle.kindi.proofs.Strings.{length-joined, length-pack, whole-bytes}
 use Rattle.pke.specs.Vectors.{vector, sumPart}
 use Rattle.pke.specs.Layout.{storedFrom}
-use Rattle.pke.proofs.Amounts.{length-add, length-le, fills}
+use Rattle.pke.proofs.Amounts.{length-add, length-le, fills, part-length}
 use Rattle.pke.proofs.Reading.{small-vector, plain-vector, vector-cong, coefficient-drop}
 use Rattle.pke.proofs.Sums.{sum-low}
 use Rattle.pke.proofs.Joining.{pack-joined}
@@ -126,15 +126,12 @@ secret-held P secrets ew en e =
 
 -- ---- parts of slices
 
--- The length of a part from a on, and of one of k entries.
+-- The length of a part from a on.
 pub rest-long : (a : ℕ) (xs : List ℕ) {m : ℕ} → a + m ≤ length xs → m ≤ length (take (length xs - a) (drop a xs))
 rest-long a xs h = rw (take-rest a xs) (simp length-drop (omega arith))
 
 pub rest-is : (a k : ℕ) (xs : List ℕ) → a + k ≡ length xs → length (take (length xs - a) (drop a xs)) ≡ k
 rest-is a k xs e = ap length (take-rest a xs) ∙ simp length-drop (omega arith)
-
-pub part-long : (a k : ℕ) (xs : List ℕ) → a + k ≤ length xs → length (take (a + k - a) (drop a xs)) ≡ k
-part-long a k xs h = simp (length-take, length-drop) (omega arith)
 
 -- A part that has come back as long as it was leaves the slice as long as it was: k entries from a on, all from a on, the first a,
 -- and k entries after the first a.
@@ -142,7 +139,7 @@ pub same-long : (a k : ℕ) (ys xs : List ℕ) → a + k ≤ length xs → lengt
     → length (patched a (a + k - a) ys xs) ≡ length xs
 same-long a k ys xs h e =
     let long : a + k - a ≡ k = omega arith in
-    length-patched a (a + k - a) ys xs (e ∙ part-long a k xs h ∙ sym long) (omega arith)
+    length-patched a (a + k - a) ys xs (e ∙ part-length a k xs h ∙ sym long) (omega arith)
 
 pub rest-same : (a : ℕ) (ys xs : List ℕ) → a ≤ length xs → length ys ≡ length (take (length xs - a) (drop a xs))
     → length (patched a (length xs - a) ys xs) ≡ length xs
@@ -220,7 +217,7 @@ streams-made P work μ γ {m} {s} {first} {second} em es room e1 e2 =
     let long1 : length (take m work) ≡ m = simp length-take (omega arith) in
     let first-long : length first ≡ m = ap length e1 ∙ length-shake (P .rate) μ (length (take m work)) ∙ long1 in
     let both : length (first ++ drop m work) ≡ length work = first-same m first work (first-long ∙ sym long1) in
-    let long2 : length (take (m + s - m) (drop m (first ++ drop m work))) ≡ s = part-long m s (first ++ drop m work) (rw both room) in
+    let long2 : length (take (m + s - m) (drop m (first ++ drop m work))) ≡ s = part-length m s (first ++ drop m work) (rw both room) in
     let second-long : length second ≡ s = ap length e2 ∙ length-shake (P .rate) γ _ ∙ long2 in
     then-next m s work first second first-long second-long room
     ∙ ap₂ _++_ (e1 ∙ ap (shake (P .rate) μ) (long1 ∙ em)) (e2 ∙ ap (shake (P .rate) γ) (long2 ∙ es))

@@ -2,7 +2,8 @@
 -- Assumes nothing.
 use Rattle.kindi.specs.Streams.{matrixIn, coefficient}
 use Rattle.pke.proofs.Reading.{rest-entries}
-use Rattle.pke.proofs.Amounts.{reads-rest, part-length, within, cell, length-add, length-bound, square, row-fits}
+use Rattle.pke.proofs.Amounts.{reads-rest, part-length, within, cell, length-add, length-bound, square}
+use Rattle.product.proofs.Dots.{row-fits}
 use borrow.Rule.Slice.PartMut.{same-len-mid}
 use Rattle.pke.proofs.Joining.{joined-turn, joined-end}
 use Rattle.kindi.specs.Params.{lengthOf, matrixLength}

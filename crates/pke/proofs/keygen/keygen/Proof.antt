@@ -1,6 +1,7 @@
 -- `pke::keygen::keygen` meets its contract: both streams, the public key, and the three parts of the secret key, each in its place.
 -- Assumes nothing.
-use Rattle.pke.proofs.Made.{streams-made, streams-long, public-made, secret-made, part-long, rest-same, rest-is, next-same, first-same, then-rest}
+use Rattle.pke.proofs.Amounts.{part-length}
+use Rattle.pke.proofs.Made.{streams-made, streams-long, public-made, secret-made, rest-same, rest-is, next-same, first-same, then-rest}
 use Rattle.hash.proofs.Parts.{patched}
 use denote.Ref.{now}
 use lib.ListN.{length, take, drop, length-take, length-append}
@@ -162,7 +163,7 @@ copy-requires-3 c κs =
     let room : q + p .seed ≤ length (now (a .sk)) = omega (arith, is, pre .secret-long) in
     let key : List ℕ = c .before .before .before .copy2 .last .0 in
     let first = first-same q key (now (a .sk)) (c .before .before .before .copy2 .kept .0) in
-    part-long q (p .seed) (key ++ drop q (now (a .sk))) (rw first room) ∙ sym (pre .γ-long)
+    part-length q (p .seed) (key ++ drop q (now (a .sk))) (rw first room) ∙ sym (pre .γ-long)
 
 sub-copy-3 : tie.Need-sub-copy-3
 sub-copy-3 c =

@@ -1,7 +1,7 @@
 -- `pke::keygen::public_parts` meets its contract: after i turns the first i stored polynomials are there.
 -- Assumes nothing.
 use Rattle.ring.proofs.Filling.{turn-less}
-use Rattle.pke.proofs.Made.{row-inside, errors-inside, part-inside, length-more, rest-long, part-long, same-long, joined-none, storedPart, length-parts, part-made}
+use Rattle.pke.proofs.Made.{row-inside, errors-inside, part-inside, length-more, rest-long, same-long, joined-none, storedPart, length-parts, part-made}
 use native.Mathlib.Numerals.{add-one}
 use native.Mathlib.Nat.{zero-mul, add-zero, suc-mul}
 use mathlib.Core.Path.{_≡_, refl, sym, ap, ap₂, _∙_}
@@ -14,7 +14,7 @@ use borrow.Author.Needs.{needs}
 use Rattle.ring.specs.Bits.{Below}
 use Rattle.kindi.specs.Params.{width, lengthOf, storedLength}
 use Rattle.kindi.specs.Keys.{joined}
-use Rattle.pke.proofs.Amounts.{length-none, length-bound, square, width-bound, reads}
+use Rattle.pke.proofs.Amounts.{length-none, length-bound, square, width-bound, reads, part-length}
 use Rattle.pke.proofs.Joining.{joined-turn, joined-end}
 use Rattle.pke.proofs.keygen.public_parts.Statement.{statement}
 use Rattle.pke.proofs.keygen.public_parts.Tie as tie
@@ -156,7 +156,7 @@ public-part-requires c κs =
         second = pre .secret-long;
         sum = h .inv .5 ∙ pre .sum;
       },
-      part-long (h .at) (c .before .before .before .before .before .before .before .before .before .before .before .before .before .before .length-of3 .result) (h .dst) (omega (arith, part-inside p turn, h .inv .3, h .inv .6, pre .stored-long, c .before .before .before .before .before .before .before .before .before .before .before .before .before .before .length-of3 .ensures .0)) ∙ c .before .before .before .before .before .before .before .before .before .before .before .before .before .before .length-of3 .ensures .0,
+      part-length (h .at) (c .before .before .before .before .before .before .before .before .before .before .before .before .before .before .length-of3 .result) (h .dst) (omega (arith, part-inside p turn, h .inv .3, h .inv .6, pre .stored-long, c .before .before .before .before .before .before .before .before .before .before .before .before .before .before .length-of3 .ensures .0)) ∙ c .before .before .before .before .before .before .before .before .before .before .before .before .before .before .length-of3 .ensures .0,
     )
 
 add-row-at : tie.Need-add-row-at Inv-loop μ-loop
