@@ -53,7 +53,7 @@ pub fn to_state(s: &[u8]) -> [[u64; 5]; 5]
 }
 
 // Writes the eight bytes of a lane.
-fn store(dst: &mut [u8], v: u64)
+pub fn store(dst: &mut [u8], v: u64)
     requires { ⌜ length (now dst) ≡ 8 ⌝ }
     ensures { λ _. ⌜ now (dst .exit) ≡ digits 8 8 v ⌝ }
 {

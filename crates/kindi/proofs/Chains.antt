@@ -8,7 +8,7 @@ use borrow.Author.Tests.{eqb-true, eq-eqb, leb-false, lt-leb, not-false}
 use lib.Dec.{eqb}
 use lib.ListN.{length}
 use Rattle.hash.proofs.Laws.{length-shake}
-use Rattle.ring.specs.Bits.{Below}
+use Rattle.bits.specs.Bits.{Below}
 use Rattle.kindi.proofs.Strings.{shake-below}
 use Rattle.kindi.specs.declared.Params.{Params}
 use Rattle.kindi.specs.Params.{publicLength, secretLength, ciphertextLength, paddedLength}

@@ -6,7 +6,7 @@ use mathlib.Core.List.{List}
 use Prim.Native.Nat.{ℕ}
 use borrow.Author.Tests.{not-false}
 use lib.ListN.{length}
-use Rattle.ring.specs.Bits.{Below}
+use Rattle.bits.specs.Bits.{Below}
 use Rattle.kindi.specs.declared.Params.{Params}
 use Rattle.kindi.specs.Params.{WellFormed, secretLength}
 use Rattle.kindi.specs.Keys.{publicKey, secretKey, publicPart, secretSeed, matrixSeed}

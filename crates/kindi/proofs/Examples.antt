@@ -6,7 +6,7 @@ use Prim.Native.Nat.{ℕ, _-_, _^_}
 use lib.Count.{trailingZeros}
 use lib.IntN.{pos, negsuc, _+ℤ_}
 use lib.ListN.{replicate}
-use Rattle.ring.specs.Bits.{pack}
+use Rattle.bits.specs.Bits.{pack}
 use Rattle.ring.specs.Integers.{residue, centred}
 use Rattle.ring.specs.Poly.{mul, ofNats, residues}
 use Rattle.ring.proofs.Examples.{example-product, example-pack, example-centre}

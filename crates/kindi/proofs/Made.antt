@@ -11,10 +11,10 @@ use lib.Pow.{pow-pos, shr-lt}
 use lib.Seq.{take-at, drop-at}
 use Rattle.hash.specs.Lists.{tabulate}
 use Rattle.hash.proofs.Entries.{tabulate-at, length-tabulate}
-use Rattle.ring.specs.Bits.{Below, pack}
+use Rattle.bits.specs.Bits.{Below, pack}
 use Rattle.ring.specs.Integers.{Cong, residue}
 use Rattle.ring.specs.Poly.{Poly, plus, residues}
-use Rattle.ring.proofs.Filling.{map-tabulate}
+use Rattle.bits.proofs.Filling.{map-tabulate}
 use Rattle.ring.proofs.Modular.{residue-cong, residue-below, cong-of-eq, cong-trans}
 use Rattle.ring.proofs.Residues.{residues-at, length-residues, residues-below}
 use Rattle.kindi.specs.declared.Params.{Params}

@@ -16,7 +16,7 @@ use Rattle.hash.specs.Shake.{xorInto}
 use Rattle.hash.proofs.Laws.{length-shake}
 use Rattle.hash.proofs.Octets.{bytes-zeros}
 use Rattle.hash.proofs.Parts.{length-xorInto}
-use Rattle.ring.specs.Bits.{Below}
+use Rattle.bits.specs.Bits.{Below}
 use Rattle.kindi.specs.declared.Params.{Params}
 use Rattle.kindi.specs.Params.{paddedLength, lowLength, coinsStreamLength}
 use Rattle.kindi.specs.Streams.{mask, coinsStream}

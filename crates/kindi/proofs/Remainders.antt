@@ -11,9 +11,9 @@ use lib.ListN.{length, getD}
 use lib.Pow.{pow-pos, pow-mono}
 use Rattle.hash.specs.Shake.{xorInto}
 use Rattle.hash.proofs.Parts.{length-xorInto}
-use Rattle.ring.specs.Bits.{Below, pack, unpack}
+use Rattle.bits.specs.Bits.{Below, pack, unpack}
 use Rattle.ring.specs.Integers.{Cong, residue, centred}
-use Rattle.ring.proofs.Digits.{unpack-below, unpack-pack, pack-unpack}
+use Rattle.bits.proofs.Digits.{unpack-below, unpack-pack, pack-unpack}
 use Rattle.ring.proofs.Modular.{cong-refl, cong-of-eq, cong-sym, cong-trans, cong-add, cong-sub, residue-cong, residue-unique}
 use Rattle.ring.proofs.Residues.{residues-at, length-residues}
 use Rattle.kindi.specs.declared.Params.{Params}

@@ -13,10 +13,10 @@ use lib.ListN.{length, getD, drop}
 use lib.Pow.{pow-pos}
 use Rattle.hash.specs.Lists.{tabulate}
 use Rattle.hash.proofs.Entries.{tabulate-at}
-use Rattle.ring.specs.Bits.{Below, pack, unpack}
+use Rattle.bits.specs.Bits.{Below, pack, unpack}
 use Rattle.ring.specs.Integers.{Cong, residue, largest, allBetween}
-use Rattle.ring.proofs.Digits.{pack-unpack, length-unpack}
-use Rattle.ring.proofs.Filling.{tabulate-ext, tabulate-entries}
+use Rattle.bits.proofs.Digits.{pack-unpack, length-unpack}
+use Rattle.bits.proofs.Filling.{tabulate-ext, tabulate-entries}
 use Rattle.ring.proofs.Integers.{ring, pos-sub}
 use Rattle.ring.proofs.Modular.{cong-of-eq, cong-refl, cong-trans, cong-add, residue-unique, cong-sym, residue-add}
 use Rattle.ring.proofs.Sizes.{all-between-size, le-largest}

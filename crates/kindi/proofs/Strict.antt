@@ -7,7 +7,7 @@ use native.Mathlib.Omega.{arith}
 use lib.ListN.{length}
 use lib.Seq.{length-take-le}
 use Rattle.hash.proofs.Entries.{length-tabulate}
-use Rattle.ring.specs.Bits.{Below}
+use Rattle.bits.specs.Bits.{Below}
 use Rattle.kindi.specs.declared.Params.{Params}
 use Rattle.kindi.specs.Both.{Iff}
 use Rattle.kindi.specs.Params.{WellFormed, publicLength, secretLength, paddedLength}

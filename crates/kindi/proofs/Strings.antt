@@ -14,8 +14,8 @@ use Rattle.hash.specs.Shake.{shake}
 use Rattle.hash.proofs.Entries.{tabulate-at, length-tabulate}
 use Rattle.hash.proofs.Laws.{length-shake, shake-at, shakeByte-below}
 use Rattle.hash.proofs.Parts.{length-digits}
-use Rattle.ring.specs.Bits.{Below, bytesFor, pack, unpack}
-use Rattle.ring.proofs.Digits.{digits-at, digits-low, digits-tabulate, value-append, value-below, first-digit, length-unpack, unpack-pack}
+use Rattle.bits.specs.Bits.{Below, bytesFor, pack, unpack}
+use Rattle.bits.proofs.Digits.{digits-at, digits-low, digits-tabulate, value-append, value-below, first-digit, length-unpack, unpack-pack}
 use Rattle.ring.proofs.Ring.{sides}
 use Rattle.kindi.specs.declared.Params.{Params}
 use Rattle.kindi.specs.Params.{WellFormed, lengthOf}

@@ -6,7 +6,7 @@ use lib.Dec.{eqb, ltb}
 use lib.IntN.{pos, _+ℤ_, _-ℤ_}
 use Rattle.hash.specs.Lists.{tabulate}
 use Rattle.hash.specs.Shake.{xorInto}
-use Rattle.ring.specs.Bits.{pack}
+use Rattle.bits.specs.Bits.{pack}
 use Rattle.ring.specs.Integers.{residue}
 use Rattle.ring.specs.Poly.{Poly, minus, dot, residues}
 use Rattle.kindi.specs.declared.Params.{Params}

@@ -6,7 +6,7 @@ use lib.Dec.{eqb, ltb}
 use lib.IntN.{pos, _+ℤ_, _*ℤ_}
 use lib.ListN.{length, replicate}
 use Rattle.hash.specs.Shake.{xorInto}
-use Rattle.ring.specs.Bits.{pack}
+use Rattle.bits.specs.Bits.{pack}
 use Rattle.ring.specs.Poly.{Poly, plus, dot, transposed, unit, residues}
 use Rattle.kindi.specs.declared.Params.{Params}
 use Rattle.kindi.specs.Params.{modulus, half, paddedLength}

@@ -2,7 +2,7 @@
 use mathlib.Core.List.{List, [], _++_, map}
 use Prim.Native.Nat.{ℕ, zero, suc, _+_, _-_, _/_, _^_}
 use lib.ListN.{take, drop}
-use Rattle.ring.specs.Bits.{pack}
+use Rattle.bits.specs.Bits.{pack}
 use Rattle.ring.specs.Poly.{Poly, plus, apply, residues}
 use Rattle.kindi.specs.declared.Params.{Params}
 use Rattle.kindi.specs.Params.{modulus, storedLength, publicLength}

@@ -7,7 +7,7 @@ use native.Mathlib.Omega.{arith}
 use mathlib.Core.List.{List, _++_}
 use lib.ListN.{length, take, drop, length-append, length-take, length-drop}
 use Rattle.hash.proofs.Parts.{take-rest}
-use Rattle.ring.specs.Bits.{bytesFor}
+use Rattle.bits.specs.Bits.{bytesFor}
 use Rattle.product.specs.Dots.{Vectors}
 use Rattle.kindi.specs.declared.Params.{Params}
 use Rattle.kindi.specs.Params.{WellFormed, half, width, lengthOf}
@@ -68,7 +68,7 @@ vectors-of P W {acc} {f} {s} e a b =
     record {
       first = a ∙ ap (λ (k : ℕ). P .l * k) (sym e);
       second = b ∙ ap (λ (k : ℕ). P .l * k) (sym e);
-      fours = omega (arith, W .eights);
+      whole = omega (arith, W .eights);
       short = omega (arith, W .short);
       few = W .few;
     }

@@ -13,7 +13,7 @@ use lib.Seq.{take-at, drop-at, drop-drop}
 use Rattle.hash.specs.Shake.{shake}
 use Rattle.hash.proofs.Laws.{length-shake}
 use Rattle.hash.proofs.Parts.{patched, take-rest}
-use Rattle.ring.specs.Bits.{Below, pack}
+use Rattle.bits.specs.Bits.{Below, pack}
 use Rattle.ring.specs.Integers.{centred}
 use Rattle.ring.specs.Poly.{Poly, plus, dot, transposed, unit, parts, residues}
 use Rattle.ring.proofs.Modular.{cong-add, cong-refl, cong-power}

@@ -6,7 +6,7 @@ use native.Mathlib.Nat.{add-zero}
 use lib.IntN.{_+ℤ_}
 use lib.ListN.{length, take, drop}
 use Rattle.hash.proofs.Parts.{take-rest}
-use Rattle.ring.specs.Bits.{Below, pack, lowBits}
+use Rattle.bits.specs.Bits.{Below, pack, lowBits}
 use Rattle.ring.specs.Integers.{Cong, centred}
 use Rattle.ring.specs.Poly.{Poly, plus, dot, parts, residues}
 use Rattle.ring.proofs.Residues.{residues-ext, length-residues}

@@ -9,8 +9,8 @@ use lib.Seq.{take-at, drop-at, drop-drop}
 use lib.Pow.{pow-pos}
 use Rattle.hash.specs.Lists.{value, digits}
 use Rattle.hash.proofs.Parts.{patched}
-use Rattle.ring.specs.Bits.{Below, pack}
-use Rattle.ring.proofs.Digits.{pack-append}
+use Rattle.bits.specs.Bits.{Below, pack}
+use Rattle.bits.proofs.Digits.{pack-append}
 use Rattle.kindi.specs.Keys.{joined}
 use Rattle.kindi.proofs.Strings.{length-joined, joined-below}
 

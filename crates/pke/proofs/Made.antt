@@ -11,11 +11,11 @@ use lib.Pow.{pow-pos, shr-lt}
 use Rattle.hash.specs.Shake.{shake}
 use Rattle.hash.proofs.Parts.{patched, length-patched, take-patched, patched-rest, take-rest}
 use Rattle.hash.proofs.Laws.{length-shake}
-use Rattle.ring.specs.Bits.{Below, pack, unpack, lowBits}
+use Rattle.bits.specs.Bits.{Below, pack, unpack, lowBits}
 use Rattle.ring.specs.Integers.{Cong, centred}
 use Rattle.ring.specs.Poly.{Poly, dot, parts, residues}
 use Rattle.ring.specs.Coefficients.{centredWords}
-use Rattle.ring.proofs.Digits.{lowBits-below}
+use Rattle.bits.proofs.Digits.{lowBits-below}
 use Rattle.ring.proofs.Modular.{cong-trans, cong-of-eq}
 use Rattle.ring.proofs.Residues.{residues-ext, residues-below, length-residues}
 use Rattle.kindi.specs.declared.Params.{Params}

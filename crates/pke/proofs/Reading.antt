@@ -9,12 +9,12 @@ use Rattle.hash.proofs.Parts.{take-rest}
 use lib.Pow.{pow-add, pow-mono}
 use Rattle.hash.specs.Lists.{tabulate, value, digits}
 use Rattle.hash.proofs.Entries.{tabulate-at, tabulate-add}
-use Rattle.ring.specs.Bits.{Below, unpack}
+use Rattle.bits.specs.Bits.{Below, unpack}
 use Rattle.ring.specs.Integers.{Cong, residue, centred}
 use Rattle.ring.specs.Poly.{Poly, parts, residues}
 use Rattle.ring.specs.Coefficients.{centredWords}
-use Rattle.ring.proofs.Digits.{digits-tabulate, value-drop, length-unpack}
-use Rattle.ring.proofs.Filling.{tabulate-ext}
+use Rattle.bits.proofs.Digits.{digits-tabulate, value-drop, length-unpack}
+use Rattle.bits.proofs.Filling.{tabulate-ext}
 use Rattle.ring.proofs.Modular.{residue-small, residue-cong, cong-trans, cong-of-eq}
 use Rattle.ring.proofs.Residues.{residues-at, residues-ext, length-residues}
 use Rattle.kindi.specs.declared.Params.{Params}

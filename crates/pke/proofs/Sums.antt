@@ -4,7 +4,7 @@ use mathlib.Core.List.{List}
 use Prim.Native.Nat.{ℕ, _+_, _^_, _<_, suc-le-suc, zero-le}
 use lib.IntN.{_+ℤ_, +ℤ-comm}
 use lib.ListN.{length}
-use Rattle.ring.specs.Bits.{lowBits}
+use Rattle.bits.specs.Bits.{lowBits}
 use Rattle.ring.specs.Integers.{Cong}
 use Rattle.ring.specs.Poly.{Poly, plus, dot, parts, ofNats, residues}
 use Rattle.product.specs.Dots.{withDot}

@@ -8,11 +8,11 @@ use native.Mathlib.Omega.{arith}
 use lib.Dec.{T, eqb, ltb, eqb·suc-zero, lt→ltb, ltb→lt}
 use lib.IntN.{ℤ, pos, _+ℤ_, _*ℤ_}
 use lib.ListN.{length, getD, length-set}
-use Rattle.ring.specs.Bits.{Below, unpack}
+use Rattle.bits.specs.Bits.{Below, unpack}
 use Rattle.ring.specs.Integers.{Cong, centred}
 use Rattle.ring.specs.Poly.{Poly, plus, unit, transposed, ofNats, residues}
 use Rattle.ring.specs.Coefficients.{added, centredWords}
-use Rattle.ring.proofs.Digits.{length-unpack}
+use Rattle.bits.proofs.Digits.{length-unpack}
 use Rattle.ring.proofs.Modular.{cong-add, cong-sub, cong-refl, cong-of-eq, cong-trans, cong-mod}
 use Rattle.ring.proofs.Residues.{residues-cong, length-residues, residues-below, residues-of-list, ofNats-residues}
 use Rattle.kindi.specs.declared.Params.{Params}

@@ -2,7 +2,7 @@
 use mathlib.Core.List.{List, map}
 use Prim.Native.Nat.{ℕ, _+_, _-_}
 use lib.ListN.{take, drop}
-use Rattle.ring.specs.Bits.{pack}
+use Rattle.bits.specs.Bits.{pack}
 use Rattle.ring.specs.Poly.{plus, dot, residues}
 use Rattle.kindi.specs.declared.Params.{Params}
 use Rattle.kindi.specs.Params.{modulus, matrixLength, lowLength, paddedLength, highLength}

@@ -4,7 +4,7 @@ ghost use mathlib.Core.List.{[], _∷_, _++_};
 ghost use Prim.Native.Nat.{_+_, _-_, _*_, _≤_, _<_};
 ghost use lib.ListN.{length, take, drop};
 ghost use Rattle.hash.specs.Shake.{shake as Shake·shake, xorInto};
-ghost use Rattle.ring.specs.Bits.{pack as Bits·pack, lowBits};
+ghost use Rattle.bits.specs.Bits.{pack as Bits·pack, lowBits};
 ghost use Rattle.ring.specs.Poly.{residues, parts, plus, dot, transposed};
 ghost use Rattle.kindi.specs.Params.{WellFormed, modulus, lengthOf, highWidth, matrixLength, paddedLength, lowLength, encryptWork};
 ghost use Rattle.kindi.specs.Streams.{matrixIn, smallIn, lowIn, firstIn, ephemeralBy, coinsStream};
@@ -29,7 +29,7 @@ fn column(p: Params, rows: &[u8], j: usize, f: &mut [u16])
     let mut at = 0;
     let mut i = 0;
     while i < p.l {
-        ring::bits::unpack(p.k, &rows[from..], &mut f[at..at + n]);
+        bits::unpack(p.k, &rows[from..], &mut f[at..at + n]);
         from += row;
         at += n;
         i += 1;
@@ -49,7 +49,7 @@ fn decompress_into(p: Params, pk: &[u8], low: &[u8], w: &mut [u16], f: &mut [u16
     requires { ⌜ (DecompressRoom p (now pk) (now low) (now f)) × (length (now w) ≡ length (now f)) ⌝ }
     ensures { λ _. ⌜ now (f .exit) ≡ vector (p .l) (p .n) (decompressedBy p (now (pk .entry)) (lowIn p (now (low .entry)))) ⌝ }
 {
-    ring::bits::unpack(p.k - p.t, pk, f);
+    bits::unpack(p.k - p.t, pk, f);
     vectors::raise(f, p.t);
     vectors::small(p.t, low, vectors::power(p.t - 1), w);
     ring::poly::add(f, w);
@@ -84,7 +84,7 @@ fn cipher_part(p: Params, errors: &[u8], f: &[u16], s: &[u16], acc: &mut [u16], 
     ensures { λ _. ⌜ now (dst .exit) ≡ Bits·pack (p .k) (lowBits (p .k) (sumPart p (now (errors .entry)) (now (f .entry)) (now (s .entry)))) ⌝ }
 {
     vectors::sum_part(p, errors, f, s, acc);
-    ring::bits::pack(p.k, acc, dst);
+    bits::pack(p.k, acc, dst);
 }
 
 // How many polynomials a ciphertext has: C_1 to C_ℓ, and D.
@@ -133,8 +133,8 @@ fn first(p: Params, coins: &[u8], high: &[u8], h: &mut [u16], dst: &mut [u16])
     requires { ⌜ (WellFormed p) × (length (now coins) ≡ p .coins) × (lengthOf p 1 (highWidth p) ≤ length (now high)) × (length (now h) ≡ p .n) × (length (now dst) ≡ p .n) ⌝ }
     ensures { λ _. ⌜ now (dst .exit) ≡ residues 65536 (p .n) (firstIn p (now (coins .entry)) (now (high .entry))) ⌝ }
 {
-    ring::bits::unpack(1, coins, dst);
-    ring::bits::unpack(lengths::width(p) - 1, high, h);
+    bits::unpack(1, coins, dst);
+    bits::unpack(lengths::width(p) - 1, high, h);
     vectors::raise(h, 1);
     ring::poly::add(dst, h);
     ring::poly::centre(dst, p.p);

@@ -3,7 +3,7 @@ ghost use mathlib.Core.Path.{_≡_};
 ghost use mathlib.Core.List.{map};
 ghost use Prim.Native.Nat.{_-_, _*_};
 ghost use lib.ListN.{length};
-ghost use Rattle.ring.specs.Bits.{pack as Bits·pack, lowBits};
+ghost use Rattle.bits.specs.Bits.{pack as Bits·pack, lowBits};
 ghost use Rattle.ring.specs.Poly.{residues};
 ghost use Rattle.kindi.specs.Params.{WellFormed, modulus, lengthOf, storedLength, keygenWork};
 ghost use Rattle.kindi.specs.Streams.{matrixIn, smallIn};
@@ -22,9 +22,9 @@ fn public_part(p: Params, errors: &[u8], f: &[u16], r: &[u16], acc: &mut [u16], 
         (lowBits (p .k) (sumPart p (now (errors .entry)) (now (f .entry)) (now (r .entry))))) ⌝ }
 {
     vectors::sum_part(p, errors, f, r, acc);
-    ring::bits::reduce(acc, p.k);
+    bits::reduce(acc, p.k);
     vectors::compress(acc, p.t);
-    ring::bits::pack(p.k - p.t, acc, dst);
+    bits::pack(p.k - p.t, acc, dst);
 }
 
 // b, compressed, polynomial by polynomial.
@@ -50,7 +50,7 @@ fn public_parts(
     let mut at = 0;
     let mut i = 0;
     while i < p.l {
-        ring::bits::unpack(p.k, &rows[row_at..], f);
+        bits::unpack(p.k, &rows[row_at..], f);
         public_part(p, &secrets[error_at..], f, r, acc, &mut dst[at..at + part]);
         row_at += row;
         error_at += error;

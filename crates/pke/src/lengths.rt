@@ -9,7 +9,7 @@ pub fn width(p: Params) -> u32
     requires { ⌜ WellFormed p ⌝ }
     ensures { λ r. ⌜ r ≡ Params·width p ⌝ }
 {
-    ring::bits::width(2 * (p.p as u32))
+    bits::width(2 * (p.p as u32))
 }
 
 // The bytes of m polynomials of w bits a coefficient.

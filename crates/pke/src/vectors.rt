@@ -3,15 +3,15 @@ ghost use mathlib.Core.Path.{_≡_};
 ghost use mathlib.Core.List.{map};
 ghost use Prim.Native.Nat.{_*_, _%_, _^_, _≤_, _<_};
 ghost use lib.ListN.{length};
-ghost use Rattle.ring.specs.Bits.{unpack as Bits·unpack};
+ghost use Rattle.bits.specs.Bits.{unpack as Bits·unpack};
 ghost use Rattle.ring.specs.Coefficients.{centredWords};
 ghost use Rattle.kindi.specs.Keys.{compress as Keys·compress};
 ghost use Rattle.pke.specs.Vectors.{raised, sumPart};
 ghost use Rattle.pke.specs.Inputs.{Rows};
 use crate::lengths::width;
+use bits::unpack;
 use kindi::Params;
 use product::dot_add;
-use ring::bits::unpack;
 use ring::poly::centre;
 
 pub fn zeros() -> [u16; 1536] {

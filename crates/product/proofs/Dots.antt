@@ -1,20 +1,46 @@
--- Laws of sums of products, as a loop over the products builds them. Assumes nothing.
+-- Laws of a product as that of a Toeplitz matrix, and of sums of products, as a loop over the products builds them. Assumes nothing.
 use mathlib.Core.Path.{_≡_, sym, ap, _∙_}
-use mathlib.Core.List.{List}
+use mathlib.Core.List.{List, _++_}
 use Prim.Native.Nat.{ℕ, suc, _+_, _-_, _*_, _≤_, _<_, suc-le-suc, zero-le}
 use native.Mathlib.Nat.{add-sub-cancel-left, mul-le-mul-left, mul-le-mul, mul-suc, mul-comm}
 use native.Mathlib.Numerals.{add-one}
 use native.Mathlib.Omega.{arith}
-use lib.IntN.{pos, _+ℤ_, +ℤ-assoc, +ℤ-idr}
-use lib.ListN.{length, getD, take, drop, length-take, length-drop}
-use lib.Seq.{getD-take, getD-drop}
-use Rattle.ring.specs.Bits.{Below}
-use Rattle.ring.specs.Poly.{Poly, sum, plus, mul, dot, parts, ofNats, residues}
-use Rattle.ring.specs.Coefficients.{Factors, withProduct}
-use Rattle.product.specs.Dots.{Vectors, withDot}
-use Rattle.ring.proofs.Modular.{cong-add, cong-of-eq, cong-trans}
-use Rattle.ring.proofs.Residues.{residues-ext, residues-cong, residues-of-list, ofNats-residues}
+use lib.IntN.{pos, negℤ, _+ℤ_, _*ℤ_, +ℤ-assoc, +ℤ-idr}
+use lib.ListN.{length, getD, take, drop, length-take, length-drop, length-append}
+use lib.Seq.{getD-take, getD-drop, take-append-seam}
+use Rattle.bits.specs.Bits.{Below}
+use Rattle.ring.specs.Poly.{Poly, sum, plus, shifted, mul, dot, parts, ofNats, residues}
+use Rattle.ring.specs.Integers.{Cong}
+use Rattle.ring.specs.Coefficients.{withProduct}
+use Rattle.ring.specs.Terms.{doubled}
+use Rattle.product.specs.Dots.{Eights, Vectors, withDot}
+use Rattle.product.specs.Toeplitz.{toeplitz, withToeplitz}
+use Rattle.ring.proofs.Modular.{cong-add, cong-mul, cong-of-eq, cong-refl, cong-trans}
+use Rattle.ring.proofs.Residues.{length-residues, residues-ext, residues-cong, residues-of-list, ofNats-residues}
+use Rattle.ring.proofs.Sums.{sum-cong}
+use Rattle.ring.proofs.Product.{doubled-at}
 use Rattle.ring.proofs.Ring.{mul-ext}
+
+-- Entry k of column i of the matrix of b.
+doubled-entry : (n : ℕ) (b : List ℕ) → length b ≡ n → (i k : ℕ) → i < n → k < n
+    → Cong 65536 (ofNats (doubled b) (n - i + k)) (shifted n (ofNats b) i k)
+doubled-entry n b e i k hi hk = rw (← e) (doubled-at b i k (rw e hi) (rw e hk))
+
+-- The matrix of b, from its doubled row, times a is the product.
+pub product-of-row : (acc a b row none : List ℕ) → Eights acc a b → row ≡ doubled b
+    → withToeplitz acc (take (2 * length acc) (row ++ none)) a ≡ withProduct acc a b
+unfolding withToeplitz toeplitz mul
+product-of-row acc a b row none p e =
+    let n = length acc in
+    let same : length b ≡ n = p .second in
+    let long : 2 * n ≡ length row = sym (ap length e ∙ length-append (residues 65536 (length b) (λ k. negℤ (ofNats b k))) b
+    ∙ rw (length-residues, same) (omega arith))
+    in
+    let front : take (2 * n) (row ++ none) ≡ doubled b = ap (λ (m : ℕ). take m (row ++ none)) long ∙ take-append-seam row none ∙ e in
+    ap (λ (r : List ℕ). residues 65536 n (plus (ofNats acc) (λ k. sum n (λ i. ofNats a i *ℤ ofNats r (n - i + k))))) front
+    ∙ residues-cong (suc-le-suc zero-le) n _ _ (λ k hk.
+    cong-add (cong-refl (ofNats acc k))
+    (sum-cong n _ _ (λ i hi. cong-mul (cong-refl (ofNats a i)) (doubled-entry n b same i k hi hk))))
 
 -- No product is added yet.
 pub dot-none : (acc f s : List ℕ) → Below 65536 acc → acc ≡ withDot 0 acc f s
@@ -58,12 +84,12 @@ part-long m i n f long h =
 
 -- Part i of two vectors are factors.
 pub part-factors : (m i at : ℕ) (acc ys f s : List ℕ) → Vectors m acc f s → i < m → at ≡ i * length acc → length ys ≡ length acc
-    → Factors ys (take (at + length acc - at) (drop at f)) (take (at + length acc - at) (drop at s))
+    → Eights ys (take (at + length acc - at) (drop at f)) (take (at + length acc - at) (drop at s))
 part-factors m i at acc ys f s v h e long =
     rw (add-sub-cancel-left at (length acc)) (rw e (record {
       first = part-long m i (length acc) f (v .first) h ∙ sym long;
       second = part-long m i (length acc) s (v .second) h ∙ sym long;
-      fours = rw long (v .fours);
+      whole = rw long (v .whole);
       short = rw long (v .short);
     }))
 

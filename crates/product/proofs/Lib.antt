@@ -1,5 +1,5 @@
 -- The laws that the proofs of `product` share.
-pub mod Eights
-pub mod Split
+pub mod Columns
+pub mod Halving
 pub mod Joining
 pub mod Dots

@@ -1,4 +1,5 @@
 -- What the contracts of `product` say.
 pub mod Dots
-pub mod Blocks
+pub mod Terms
+pub mod Toeplitz
 pub mod Halves

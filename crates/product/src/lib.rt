@@ -3,31 +3,49 @@ mod halves;
 mod rows;
 
 ghost use mathlib.Core.Path.{_≡_};
-ghost use Rattle.ring.specs.Coefficients.{Factors, withProduct};
-ghost use Rattle.product.specs.Dots.{Vectors, withDot};
-use halves::multiply_once;
-use halves::multiply_twice;
-use ring::poly::multiply_add;
+ghost use Rattle.ring.specs.Coefficients.{withProduct};
+ghost use Rattle.product.specs.Dots.{Eights, Vectors, withDot};
+ghost use Rattle.product.specs.Toeplitz.{Rows, withToeplitz};
+use halves::toeplitz_128;
+use halves::toeplitz_256;
+use halves::toeplitz_512;
+use ring::poly::double;
+use rows::toeplitz_rows;
 
-// acc + a·b, by halves where n is a multiple of 32.
-fn multiply(acc: &mut [u16], a: &[u16], b: &[u16])
-    requires { ⌜ Factors (now acc) (now a) (now b) ⌝ }
-    ensures { λ _. ⌜ now (acc .exit) ≡ withProduct (now (acc .entry)) (now (a .entry)) (now (b .entry)) ⌝ }
+fn zeros() -> [u16; 1024] {
+    [0; 1024]
+}
+
+// Adds the product of a Toeplitz matrix with v, by halves down to 64 rows where there are 128, 256 or 512 of them.
+fn toeplitz(acc: &mut [u16], row: &[u16], v: &[u16])
+    requires { ⌜ Rows (now acc) (now row) (now v) ⌝ }
+    ensures { λ _. ⌜ now (acc .exit) ≡ withToeplitz (now (acc .entry)) (now (row .entry)) (now (v .entry)) ⌝ }
 {
     let n = acc.len();
-    if n < 32 {
-        multiply_add(acc, a, b);
+    if n == 512 {
+        toeplitz_512(acc, row, v);
         return;
     }
-    if n % 32 != 0 {
-        multiply_add(acc, a, b);
+    if n == 256 {
+        toeplitz_256(acc, row, v);
         return;
     }
-    if n <= 256 {
-        multiply_once(acc, a, b);
+    if n == 128 {
+        toeplitz_128(acc, row, v);
         return;
     }
-    multiply_twice(acc, a, b);
+    toeplitz_rows(acc, row, v);
+}
+
+// acc + a·b.
+fn multiply(acc: &mut [u16], a: &[u16], b: &[u16])
+    requires { ⌜ Eights (now acc) (now a) (now b) ⌝ }
+    ensures { λ _. ⌜ now (acc .exit) ≡ withProduct (now (acc .entry)) (now (a .entry)) (now (b .entry)) ⌝ }
+{
+    let end = 2 * acc.len();
+    let mut row = zeros();
+    double(b, &mut row[..end]);
+    toeplitz(acc, &row[..end], a);
 }
 
 // acc + the sum of f_i·s_i over two vectors of m polynomials, one after another.

@@ -1,12 +1,11 @@
-// Products of up to 128 coefficients, eight rows a pass, modulo 2^16.
+// Products of Toeplitz matrices with vectors, eight columns a pass, modulo 2^16.
 ghost use mathlib.Core.Path.{_≡_};
 ghost use Prim.Native.Nat.{_+_, _<_};
-ghost use lib.ListN.{length, replicate};
+ghost use lib.ListN.{length};
 ghost use Rattle.hash.specs.Lists.{tabulate};
-ghost use Rattle.ring.specs.Coefficients.{withProduct};
-ghost use Rattle.product.specs.Blocks.{Blocks, fourTerms, addEight};
+ghost use Rattle.product.specs.Terms.{fourTerms, addEight};
+ghost use Rattle.product.specs.Toeplitz.{Rows, withToeplitz};
 use ring::poly::add_term;
-use ring::poly::double;
 
 // A word with four terms more, of a row from place k on.
 fn add_four(x: u16, row: &[u16], k: usize, a: u16, b: u16, c: u16, d: u16) -> u16
@@ -17,7 +16,7 @@ fn add_four(x: u16, row: &[u16], k: usize, a: u16, b: u16, c: u16, d: u16) -> u1
     add_term(add_term(two, c, row[k + 1]), d, row[k])
 }
 
-// Adds the rows of eight neighbouring coefficients a to h of one factor; row has the other factor, shifted for h.
+// Adds eight neighbouring columns times a to h; row has the entries from the last of them on.
 fn add_eight(
     acc: &mut [u16],
     row: &[u16],
@@ -41,34 +40,25 @@ fn add_eight(
     }
 }
 
-// Room for half of 512 coefficients, and one more.
-pub fn half_room() -> [u16; 257]
-    ensures { λ r. ⌜ r ≡ replicate 257 0 ⌝ }
-{
-    [0; 257]
-}
-
-// acc + a·b, eight rows a pass.
-pub fn multiply_eight(acc: &mut [u16], a: &[u16], b: &[u16])
-    requires { ⌜ Blocks 8 128 (now acc) (now a) (now b) ⌝ }
-    ensures { λ _. ⌜ now (acc .exit) ≡ withProduct (now (acc .entry)) (now (a .entry)) (now (b .entry)) ⌝ }
+// Adds the product of a Toeplitz matrix with v, column by column.
+pub fn toeplitz_rows(acc: &mut [u16], row: &[u16], v: &[u16])
+    requires { ⌜ Rows (now acc) (now row) (now v) ⌝ }
+    ensures { λ _. ⌜ now (acc .exit) ≡ withToeplitz (now (acc .entry)) (now (row .entry)) (now (v .entry)) ⌝ }
 {
     let n = acc.len();
-    let mut row = half_room();
-    double(b, &mut row[..2 * n]);
     let mut i = 0;
     while i < n {
         add_eight(
             acc,
             &row[n - i - 7..2 * n - i],
-            a[i],
-            a[i + 1],
-            a[i + 2],
-            a[i + 3],
-            a[i + 4],
-            a[i + 5],
-            a[i + 6],
-            a[i + 7],
+            v[i],
+            v[i + 1],
+            v[i + 2],
+            v[i + 3],
+            v[i + 4],
+            v[i + 5],
+            v[i + 6],
+            v[i + 7],
         );
         i += 8;
     }

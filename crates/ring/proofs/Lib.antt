@@ -1,7 +1,4 @@
 -- The laws that the proofs of `ring` share.
-pub mod Filling
-pub mod Digits
-pub mod Packing
 pub mod Integers
 pub mod Modular
 pub mod Sums

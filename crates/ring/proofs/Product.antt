@@ -9,11 +9,11 @@ use lib.IntN.{ℤ, pos, negℤ, _+ℤ_, _*ℤ_, +ℤ-assoc, +ℤ-idr}
 use lib.ListN.{length, getD, take, drop, length-append, length-take, length-drop, List·getD-append}
 use lib.Seq.{getD-append-add, getD-take, getD-drop}
 use Rattle.hash.specs.Lists.{tabulate}
-use Rattle.ring.proofs.Filling.{tabulate-ext}
+use Rattle.bits.proofs.Filling.{tabulate-ext}
 use Rattle.ring.proofs.Modular.{cong-of-eq, cong-trans, residue-cong, residue-term}
 use Rattle.ring.proofs.Residues.{residues-at, residues-ext, residues-of-list, length-residues}
 use Rattle.ring.proofs.Ring.{shifted-low, shifted-high, sides}
-use Rattle.ring.specs.Bits.{Below}
+use Rattle.bits.specs.Bits.{Below}
 use Rattle.ring.specs.Integers.{Cong, residue}
 use Rattle.ring.specs.Poly.{Poly, sum, shifted, mul, plus, ofNats, residues}
 use Rattle.ring.specs.Terms.{addTerm, addFour, doubled}

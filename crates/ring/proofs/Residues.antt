@@ -7,9 +7,9 @@ use lib.Seq.{ext-getD}
 use lib.IntN.{pos}
 use Rattle.hash.proofs.Entries.{tabulate-at, length-tabulate}
 use Rattle.ring.specs.Integers.{Cong, residue}
-use Rattle.ring.specs.Bits.{Below, lowBits}
+use Rattle.bits.specs.Bits.{Below, lowBits}
 use Rattle.ring.specs.Poly.{Poly, mul, plus, ofNats, residues}
-use Rattle.ring.proofs.Filling.{tabulate-ext, map-tabulate}
+use Rattle.bits.proofs.Filling.{tabulate-ext, map-tabulate}
 use Rattle.ring.proofs.Modular.{cong-add, cong-of-eq, cong-trans, residue-small, residue-cong, residue-below, residue-eq, residue-power}
 use Rattle.ring.proofs.Ring.{sides, mul-cong}
 

@@ -19,7 +19,7 @@ use Rattle.ring.proofs.Ring.{sides}
 use Rattle.ring.proofs.Integers.{mag-le, natAbs-mul, natAbs-neg, pos-sub}
 use Rattle.ring.proofs.Sums.{natAbs-sum}
 use Rattle.ring.specs.Poly.{sum, ofInts}
-use Rattle.ring.specs.Bits.{Below}
+use Rattle.bits.specs.Bits.{Below}
 use Rattle.ring.specs.Coefficients.{centredIntegers}
 use Rattle.ring.specs.Integers.{centred, largest, between, allBetween}
 

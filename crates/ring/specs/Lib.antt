@@ -1,5 +1,4 @@
--- What the contracts of `ring` say: bit strings, integers modulo q, polynomials modulo X^n + 1.
-pub mod Bits
+-- What the contracts of `ring` say: integers modulo q, polynomials modulo X^n + 1.
 pub mod Integers
 pub mod Poly
 pub mod Coefficients

@@ -1,4 +1,3 @@
-// Bit strings, polynomials modulo X^n + 1, and their products.
-pub mod bits;
+// Polynomials modulo X^n + 1, and their products.
 pub mod poly;
 pub mod signed;

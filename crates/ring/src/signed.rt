@@ -5,7 +5,7 @@ ghost use mathlib.Core.List.{_++_};
 ghost use Prim.Native.Nat.{_*_, _^_, _<_, max};
 ghost use lib.IntN.{natAbs, negℤ, _*ℤ_};
 ghost use lib.ListN.{length};
-ghost use Rattle.ring.specs.Bits.{Below};
+ghost use Rattle.bits.specs.Bits.{Below};
 ghost use Rattle.ring.specs.Integers.{centred, largest, allBetween};
 ghost use Rattle.ring.specs.Poly.{sum, ofInts};
 ghost use Rattle.ring.specs.Coefficients.{Summable, centredIntegers, withSignedProduct};

@@ -7,10 +7,10 @@ use native.Mathlib.Omega.{arith}
 use lib.IntN.{pos}
 use lib.ListN.{length, replicate, length-replicate}
 use lib.Pow.{pow-mono}
-use Rattle.ring.proofs.Digits.{unpack-below, length-unpack}
+use Rattle.bits.proofs.Digits.{unpack-below, length-unpack}
 use Rattle.hash.proofs.Entries.{length-tabulate}
 use Rattle.ring.proofs.Sizes.{largest-centred, largest-zeros}
-use Rattle.ring.specs.Bits.{unpack}
+use Rattle.bits.specs.Bits.{unpack}
 use Rattle.ring.specs.Coefficients.{Summable}
 use Rattle.ring.specs.Integers.{largest}
 use Rattle.ring_calls.specs.Signed.{centredString, Small}

@@ -3,7 +3,7 @@ use mathlib.Core.List.{List}
 use Prim.Native.Nat.{ℕ, _*_, _≤_}
 use lib.IntN.{ℤ, pos}
 use lib.ListN.{length, replicate}
-use Rattle.ring.specs.Bits.{bytesFor, unpack}
+use Rattle.bits.specs.Bits.{bytesFor, unpack}
 use Rattle.ring.specs.Coefficients.{centredIntegers, withSignedProduct}
 
 -- n values of w bits in bytes, each less p.

@@ -4,7 +4,7 @@ ghost use mathlib.Core.Bool.{cond};
 ghost use Prim.Native.Nat.{_*_, _≤_};
 ghost use lib.IntN.{pos};
 ghost use lib.ListN.{length, replicate};
-ghost use Rattle.ring.specs.Bits.{bytesFor, pack, unpack, lowBits};
+ghost use Rattle.bits.specs.Bits.{bytesFor, pack, unpack, lowBits};
 ghost use Rattle.ring.specs.Coefficients.{Factors, withProduct};
 ghost use Rattle.ring.specs.Integers.{largest, allBetween};
 ghost use Rattle.ring_calls.specs.Outcome.{Outcome};
@@ -50,7 +50,7 @@ pub extern "C" fn ring_pack(w: u32, src: &[u16], dst: &mut [u8]) -> u32
     if dst.len() != bytes {
         return 1;
     }
-    ring::bits::pack(w, src, dst);
+    bits::pack(w, src, dst);
     0
 }
 
@@ -71,7 +71,7 @@ pub extern "C" fn ring_unpack(w: u32, src: &[u8], dst: &mut [u16]) -> u32
     if src.len() < bytes {
         return 1;
     }
-    ring::bits::unpack(w, src, dst);
+    bits::unpack(w, src, dst);
     0
 }
 
@@ -88,7 +88,7 @@ fn centre(w: u32, p: u16, bytes: &[u8], vs: &mut [u16], xs: &mut [i16])
     requires { ⌜ (w ≤ 10) × (p ≤ 1024) × (length (now vs) ≡ length (now xs)) × (bytesFor (w * length (now xs)) ≤ length (now bytes)) ⌝ }
     ensures { λ _. ⌜ now (xs .exit) ≡ centredString w p (length (now (xs .entry))) (now (bytes .entry)) ⌝ }
 {
-    ring::bits::unpack(w, bytes, vs);
+    bits::unpack(w, bytes, vs);
     ring::signed::centre(vs, p, xs);
 }
 

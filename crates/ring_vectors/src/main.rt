@@ -9,7 +9,7 @@ ghost use mathlib.Core.Path.{_≡_};
 ghost use Prim.Native.Nat.{_+_, _*_, _≤_, _<_};
 ghost use lib.IntN.{pos};
 ghost use lib.ListN.{length, replicate};
-ghost use Rattle.ring.specs.Bits.{bytesFor};
+ghost use Rattle.bits.specs.Bits.{bytesFor};
 ghost use Rattle.ring.specs.Integers.{largest};
 
 fn coefficients() -> [u16; 512]
@@ -48,7 +48,7 @@ fn write_list(xs: &[u16]) -> bool {
         return false;
     }
     let m = 2 * xs.len();
-    ring::bits::store(xs, &mut answer[..m]);
+    bits::store(xs, &mut answer[..m]);
     write_line(&answer[..m])
 }
 
@@ -62,7 +62,7 @@ fn read_list(xs: &mut [u16]) -> bool {
     if io::read_full(STDIN_FILENO, &mut body[..m]) != m {
         return false;
     }
-    ring::bits::load(&body[..m], xs);
+    bits::load(&body[..m], xs);
     true
 }
 
@@ -73,7 +73,7 @@ fn pack(w: u32, xs: &mut [u16], bytes: &mut [u8]) -> bool
     if !read_list(xs) {
         return false;
     }
-    ring::bits::pack(w, xs, bytes);
+    bits::pack(w, xs, bytes);
     write_line(bytes)
 }
 
@@ -85,7 +85,7 @@ fn unpack(w: u32, xs: &mut [u16], bytes: &mut [u8]) -> bool
     if io::read_full(STDIN_FILENO, bytes) != m {
         return false;
     }
-    ring::bits::unpack(w, bytes, xs);
+    bits::unpack(w, bytes, xs);
     write_list(xs)
 }
 
@@ -107,7 +107,7 @@ fn product(w: u32, p: u16, acc: &mut [u16], a: &mut [u16], v: &mut [u16]) -> boo
     }
     ring::poly::centre(v, p);
     ring::poly::multiply_add(acc, a, v);
-    ring::bits::reduce(acc, w);
+    bits::reduce(acc, w);
     write_list(acc)
 }
 
@@ -135,7 +135,7 @@ fn centre(w: u32, p: u16, values: &mut [u16], xs: &mut [i16])
     requires { ⌜ (w ≤ 10) × (p ≤ 1024) × (length (now values) ≡ length (now xs)) ⌝ }
     ensures { λ _. ⌜ largest (now (xs .exit)) ≤ 1024 ⌝ }
 {
-    ring::bits::reduce(values, w);
+    bits::reduce(values, w);
     ring::signed::centre(values, p, xs);
 }
 

@@ -1,9 +1,9 @@
 -- `product::dot_add` meets its contract: after i turns the first i products are added.
 -- Assumes nothing.
 use Rattle.product.proofs.Dots.{dot-none, dot-turn, part-factors, row-fits, rows-few}
-use Rattle.ring.proofs.Filling.{turn-less}
+use Rattle.bits.proofs.Filling.{turn-less}
 use Rattle.product.specs.Dots.{withDot}
-use Rattle.ring.specs.Bits.{Below}
+use Rattle.bits.specs.Bits.{Below}
 use lib.ListN.{length}
 use denote.Ref.{now}
 use native.Mathlib.Numerals.{add-one}

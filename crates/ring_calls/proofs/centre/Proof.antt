@@ -7,8 +7,8 @@ use borrow.Author.Needs.{needs}
 use denote.Ref.{now}
 use lib.ListN.{length}
 use lib.Pow.{pow-mono}
-use Rattle.ring.proofs.Digits.{unpack-below}
-use Rattle.ring.specs.Bits.{unpack}
+use Rattle.bits.proofs.Digits.{unpack-below}
+use Rattle.bits.specs.Bits.{unpack}
 use Rattle.ring.specs.Coefficients.{centredIntegers}
 use Rattle.ring_calls.proofs.centre.Statement.{statement}
 use Rattle.ring_calls.proofs.centre.Tie as tie

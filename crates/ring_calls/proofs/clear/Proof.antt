@@ -6,7 +6,7 @@ use native.Mathlib.Omega.{arith}
 use denote.Ref.{now}
 use lib.IntN.{pos}
 use lib.ListN.{length, length-set}
-use Rattle.ring.proofs.Filling.{filled, filled-none, filled-more, filled-all, tabulate-constant}
+use Rattle.bits.proofs.Filling.{filled, filled-none, filled-more, filled-all, tabulate-constant}
 use Rattle.ring_calls.proofs.clear.Statement.{statement}
 use Rattle.ring_calls.proofs.clear.Tie as tie
 

@@ -8,9 +8,9 @@ use native.Mathlib.Omega.{arith}
 use borrow.Author.Needs.{needs}
 use denote.Ref.{now}
 use lib.Pow.{pow-mono}
-use Rattle.ring.proofs.Digits.{lowBits-below}
+use Rattle.bits.proofs.Digits.{lowBits-below}
 use Rattle.ring.proofs.Sizes.{largest-centred}
-use Rattle.ring.specs.Bits.{Below, lowBits}
+use Rattle.bits.specs.Bits.{Below, lowBits}
 use Rattle.ring_vectors.proofs.centre.Statement.{statement}
 use Rattle.ring_vectors.proofs.centre.Tie as tie
 

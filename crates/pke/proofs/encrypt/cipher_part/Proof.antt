@@ -1,7 +1,7 @@
 -- `pke::encrypt::cipher_part` meets its contract.
 -- Assumes nothing.
 use Rattle.pke.proofs.Amounts.{fills}
-use Rattle.ring.specs.Bits.{pack, lowBits}
+use Rattle.bits.specs.Bits.{pack, lowBits}
 use Prim.Native.Nat.{ℕ, _-_}
 use mathlib.Core.List.{List}
 use mathlib.Core.Path.{ap, _∙_}

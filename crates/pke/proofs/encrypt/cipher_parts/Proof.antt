@@ -7,10 +7,10 @@ use Rattle.kindi.specs.Params.{modulus, width, lengthOf, paddedLength, cipherte
 use Rattle.kindi.specs.Streams.{matrixIn, lowIn, smallIn}
 use Rattle.kindi.specs.Encrypt.{factorBy}
 use Rattle.kindi.specs.Keys.{joined}
-use Rattle.ring.proofs.Filling.{turn-less}
+use Rattle.bits.proofs.Filling.{turn-less}
 use Rattle.ring.proofs.Modular.{cong-refl}
 use Rattle.ring.specs.Poly.{Poly, parts, plus, dot, residues}
-use Rattle.ring.specs.Bits.{pack, Below}
+use Rattle.bits.specs.Bits.{pack, Below}
 use Rattle.hash.proofs.Parts.{take-rest}
 use lib.ListN.{length, drop, length-drop}
 use Prim.Native.Nat.{ℕ, _+_, _-_, _≤_}

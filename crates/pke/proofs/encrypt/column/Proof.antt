@@ -10,10 +10,10 @@ use Rattle.kindi.specs.Params.{lengthOf, matrixLength}
 use Rattle.pke.specs.Vectors.{vector}
 use Rattle.kindi.proofs.Strings.{length-joined}
 use Rattle.kindi.specs.Keys.{joined}
-use Rattle.ring.proofs.Filling.{turn-less}
+use Rattle.bits.proofs.Filling.{turn-less}
 use Rattle.ring.proofs.Residues.{length-residues}
 use Rattle.ring.specs.Poly.{residues}
-use Rattle.ring.specs.Bits.{unpack, Below}
+use Rattle.bits.specs.Bits.{unpack, Below}
 use lib.ListN.{length, take, drop}
 use lib.IntN.{pos}
 use Prim.Native.Nat.{ℕ, _+_, _*_, _-_, _≤_}

@@ -4,7 +4,7 @@ use Rattle.pke.proofs.Amounts.{vector-some, half-power, reads}
 use Rattle.pke.proofs.Terms.{decompress-is}
 use Rattle.pke.specs.Vectors.{raised, withConstant}
 use Rattle.ring.specs.Coefficients.{added, centredWords}
-use Rattle.ring.specs.Bits.{unpack}
+use Rattle.bits.specs.Bits.{unpack}
 use Prim.Native.Nat.{ℕ, _-_}
 use denote.Ref.{now}
 use native.Mathlib.Omega.{arith}

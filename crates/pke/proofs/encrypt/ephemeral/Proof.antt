@@ -4,7 +4,7 @@ use Rattle.pke.proofs.Reading.{small-vector}
 use Rattle.pke.proofs.Amounts.{reads, width-bound, rest-size, begun-length, begins}
 use Rattle.kindi.specs.Params.{width}
 use Rattle.ring.specs.Coefficients.{centredWords}
-use Rattle.ring.specs.Bits.{unpack}
+use Rattle.bits.specs.Bits.{unpack}
 use Rattle.hash.proofs.Parts.{patched-rest}
 use lib.Seq.{take-at}
 use lib.ListN.{length, take, drop, length-take, length-drop}

@@ -5,7 +5,7 @@ use Rattle.pke.proofs.Terms.{first-is}
 use Rattle.kindi.specs.Params.{width, highWidth}
 use Rattle.pke.specs.Vectors.{raised}
 use Rattle.ring.specs.Coefficients.{added, centredWords}
-use Rattle.ring.specs.Bits.{unpack}
+use Rattle.bits.specs.Bits.{unpack}
 use Prim.Native.Nat.{ℕ, _-_}
 use denote.Ref.{now}
 use native.Mathlib.Omega.{arith}

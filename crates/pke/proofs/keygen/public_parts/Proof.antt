@@ -1,6 +1,6 @@
 -- `pke::keygen::public_parts` meets its contract: after i turns the first i stored polynomials are there.
 -- Assumes nothing.
-use Rattle.ring.proofs.Filling.{turn-less}
+use Rattle.bits.proofs.Filling.{turn-less}
 use Rattle.pke.proofs.Made.{row-inside, errors-inside, part-inside, length-more, rest-long, same-long, joined-none, storedPart, length-parts, part-made}
 use native.Mathlib.Numerals.{add-one}
 use native.Mathlib.Nat.{zero-mul, add-zero, suc-mul}
@@ -11,7 +11,7 @@ use native.Mathlib.Omega.{arith}
 use lib.ListN.{length, drop}
 use denote.Ref.{now}
 use borrow.Author.Needs.{needs}
-use Rattle.ring.specs.Bits.{Below}
+use Rattle.bits.specs.Bits.{Below}
 use Rattle.kindi.specs.Params.{width, lengthOf, storedLength}
 use Rattle.kindi.specs.Keys.{joined}
 use Rattle.pke.proofs.Amounts.{length-none, length-bound, square, width-bound, reads, part-length}

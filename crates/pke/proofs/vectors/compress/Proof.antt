@@ -1,6 +1,6 @@
 -- `pke::vectors::compress` meets its contract: after i turns the first i coefficients have lost their low bits.
 -- Assumes nothing.
-use Rattle.ring.proofs.Filling.{filled, filled-none, filled-more, filled-at, filled-all, tabulate-entries, map-tabulate}
+use Rattle.bits.proofs.Filling.{filled, filled-none, filled-more, filled-at, filled-all, tabulate-entries, map-tabulate}
 use lib.ListN.{length, getD, length-set}
 use Prim.Native.Nat.{ℕ, _-_, _/_, _^_, _≤_}
 use denote.Ref.{now}

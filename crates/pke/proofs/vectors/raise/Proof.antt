@@ -2,7 +2,7 @@
 -- Assumes nothing.
 use lib.IntN.{pos}
 use Rattle.ring.proofs.Modular.{residue-pos}
-use Rattle.ring.proofs.Filling.{filled, filled-none, filled-more, filled-at, filled-all}
+use Rattle.bits.proofs.Filling.{filled, filled-none, filled-more, filled-at, filled-all}
 use Rattle.ring.specs.Poly.{residues}
 use Rattle.ring.specs.Integers.{residue}
 use lib.ListN.{length, getD, length-set}

@@ -1,7 +1,7 @@
 -- `pke::vectors::sum_part` meets its contract.
 -- Assumes nothing.
 use Rattle.ring.specs.Coefficients.{centredWords}
-use Rattle.ring.specs.Bits.{unpack}
+use Rattle.bits.specs.Bits.{unpack}
 use Rattle.pke.proofs.Reading.{small-first}
 use mathlib.Core.Path.{ap₂, sym, _∙_}
 use Rattle.pke.proofs.Amounts.{reads, width-bound, vectors-of}

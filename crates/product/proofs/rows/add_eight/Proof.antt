@@ -5,8 +5,8 @@ use Prim.Native.Nat.{_-_, _≤_}
 use native.Mathlib.Omega.{arith}
 use denote.Ref.{now}
 use lib.ListN.{length, getD, length-set}
-use Rattle.ring.proofs.Filling.{filled, filled-none, filled-more, filled-at, filled-all}
-use Rattle.product.specs.Blocks.{addEight}
+use Rattle.bits.proofs.Filling.{filled, filled-none, filled-more, filled-at, filled-all}
+use Rattle.product.specs.Terms.{addEight}
 use Rattle.product.proofs.rows.add_eight.Statement.{statement}
 use Rattle.product.proofs.rows.add_eight.Tie as tie
 

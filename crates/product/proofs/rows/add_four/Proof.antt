@@ -2,7 +2,7 @@
 -- Assumes nothing.
 use mathlib.Core.Path.{_∙_}
 use borrow.Author.Needs.{needs}
-use Rattle.product.specs.Blocks.{fourTerms}
+use Rattle.product.specs.Terms.{fourTerms}
 use Rattle.product.proofs.rows.add_four.Statement.{statement}
 use Rattle.product.proofs.rows.add_four.Tie as tie
 

@@ -6,7 +6,7 @@ use native.Mathlib.Omega.{arith}
 use borrow.Author.Needs.{needs}
 use denote.Ref.{now}
 use lib.ListN.{length, getD, length-set}
-use Rattle.ring.proofs.Filling.{filled, filled-none, filled-more, filled-at, filled-all}
+use Rattle.bits.proofs.Filling.{filled, filled-none, filled-more, filled-at, filled-all}
 use Rattle.ring.specs.Terms.{addFour}
 use Rattle.ring.proofs.poly.add_rows.Statement.{statement}
 use Rattle.ring.proofs.poly.add_rows.Tie as tie

@@ -6,7 +6,7 @@ use native.Mathlib.Omega.{arith}
 use borrow.Author.Needs.{needs}
 use denote.Ref.{now}
 use lib.ListN.{length, getD, length-set}
-use Rattle.ring.proofs.Filling.{filled, filled-none, filled-more, filled-at, filled-all}
+use Rattle.bits.proofs.Filling.{filled, filled-none, filled-more, filled-at, filled-all}
 use Rattle.ring.specs.Integers.{residue, centred}
 use Rattle.ring.specs.Poly.{residues}
 use Rattle.ring.proofs.poly.centre.Statement.{statement}

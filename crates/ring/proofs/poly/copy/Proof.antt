@@ -5,7 +5,7 @@ use Prim.Native.Nat.{_-_, _≤_}
 use native.Mathlib.Omega.{arith}
 use denote.Ref.{now}
 use lib.ListN.{length, getD, length-set}
-use Rattle.ring.proofs.Filling.{filled, filled-none, filled-more, filled-all, tabulate-entries}
+use Rattle.bits.proofs.Filling.{filled, filled-none, filled-more, filled-all, tabulate-entries}
 use Rattle.ring.proofs.poly.copy.Statement.{statement}
 use Rattle.ring.proofs.poly.copy.Tie as tie
 

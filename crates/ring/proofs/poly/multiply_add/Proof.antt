@@ -8,7 +8,7 @@ use borrow.Author.Needs.{needs}
 use denote.Ref.{now}
 use lib.ListN.{length-take, length, drop}
 use Rattle.ring.proofs.Product.{row-long, part-long, row-at, rows, rows-none, rows-all, four-more}
-use Rattle.ring.specs.Bits.{Below}
+use Rattle.bits.specs.Bits.{Below}
 use Rattle.ring.specs.Poly.{ofNats, residues}
 use Rattle.ring.proofs.poly.multiply_add.Statement.{statement}
 use Rattle.ring.proofs.poly.multiply_add.Tie as tie

@@ -7,7 +7,7 @@ use borrow.Author.Needs.{needs}
 use denote.Ref.{now}
 use lib.IntN.{negℤ, +ℤ-idl}
 use lib.ListN.{length, length-set}
-use Rattle.ring.proofs.Filling.{filled, filled-none, filled-more, filled-all}
+use Rattle.bits.proofs.Filling.{filled, filled-none, filled-more, filled-all}
 use Rattle.ring.specs.Integers.{residue}
 use Rattle.ring.specs.Poly.{ofNats, residues}
 use Rattle.ring.proofs.poly.negate.Statement.{statement}

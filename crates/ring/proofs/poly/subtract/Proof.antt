@@ -7,7 +7,7 @@ use borrow.Author.Needs.{needs}
 use denote.Ref.{now}
 use lib.IntN.{pos, _-ℤ_}
 use lib.ListN.{length, length-set}
-use Rattle.ring.proofs.Filling.{filled, filled-none, filled-more, filled-at, filled-all}
+use Rattle.bits.proofs.Filling.{filled, filled-none, filled-more, filled-at, filled-all}
 use Rattle.ring.specs.Integers.{residue}
 use Rattle.ring.specs.Poly.{minus, ofNats, residues}
 use Rattle.ring.proofs.poly.subtract.Statement.{statement}

@@ -8,7 +8,7 @@ use lib.IntN.{pos}
 use lib.ListN.{length, getD, length-set}
 use mir.Syntax.{w16}
 use mir.ValLaws.{toZ-ofZ}
-use Rattle.ring.proofs.Filling.{filled, filled-none, filled-more, filled-all}
+use Rattle.bits.proofs.Filling.{filled, filled-none, filled-more, filled-all}
 use Rattle.ring.specs.Integers.{centred}
 use Rattle.ring.proofs.signed.centre.Statement.{statement}
 use Rattle.ring.proofs.signed.centre.Tie as tie

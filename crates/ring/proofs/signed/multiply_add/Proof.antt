@@ -12,7 +12,7 @@ use lib.ListN.{length, getD, drop, length-set, length-take, length-drop, length-
 use mir.Syntax.{w32}
 use mir.Val.{SFits, toZ, ofZ}
 use mir.ValLaws.{toZ-ofZ}
-use Rattle.ring.proofs.Filling.{turn-less, filled, filled-none, filled-more, filled-at, filled-all}
+use Rattle.bits.proofs.Filling.{turn-less, filled, filled-none, filled-more, filled-at, filled-all}
 use Rattle.ring.proofs.Reversal.{row-at, met-long, met-size, met-product, product-bound}
 use Rattle.ring.proofs.Sizes.{fits-abs}
 use Rattle.ring.specs.Integers.{largest}

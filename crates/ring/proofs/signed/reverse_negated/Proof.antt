@@ -10,7 +10,7 @@ use lib.ListN.{length, length-set}
 use mir.Syntax.{w16}
 use mir.Val.{toZ, ofZ}
 use mir.ValLaws.{toZ-ofZ}
-use Rattle.ring.proofs.Filling.{filled, filled-none, filled-more, filled-all}
+use Rattle.bits.proofs.Filling.{filled, filled-none, filled-more, filled-all}
 use Rattle.ring.proofs.Sizes.{le-largest}
 use Rattle.ring.specs.Poly.{ofInts}
 use Rattle.ring.proofs.signed.reverse_negated.Statement.{statement}

@@ -5,7 +5,7 @@ use Prim.Native.Nat.{_-_, _≤_}
 use native.Mathlib.Omega.{arith}
 use denote.Ref.{now}
 use lib.ListN.{length, length-set}
-use Rattle.ring.proofs.Filling.{filled, filled-none, filled-more, filled-all, tabulate-constant}
+use Rattle.bits.proofs.Filling.{filled, filled-none, filled-more, filled-all, tabulate-constant}
 use Rattle.scheme.proofs.work.wipe.Statement.{statement}
 use Rattle.scheme.proofs.work.wipe.Tie as tie
 

@@ -1,0 +1,2 @@
+-- What the contracts of `bits` say: bit strings.
+pub mod Bits
