@@ -91,6 +91,19 @@ half-power P W = halves (P .k) (W .quarters)
 pub within : (P : Params) {a m : ℕ} (w : ℕ) → a < m → lengthOf P a w + lengthOf P 1 w ≤ lengthOf P m w
 within P {a} {m} w h = rw (sym (length-add P a 1 w)) (length-le P w (rw (add-one a) h))
 
+-- A part of a string of at most 65,536 entries.
+pub record Placed (at part long : ℕ) : Type 0 where
+  pub fits : at + part ≤ long
+  pub short : long ≤ 65536
+
+-- Polynomial a of m is one, in a string of the m.
+pub placed : (P : Params) → WellFormed P → (a m w : ℕ) {at part long : ℕ} → at ≡ lengthOf P a w → part ≡ lengthOf P 1 w → long ≡ lengthOf P m w
+    → a < m → m ≤ 64 → w ≤ 16 → Placed at part long
+placed P W a m w {at} {part} {long} ea ep el h hm hw =
+    let inside : lengthOf P a w + lengthOf P 1 w ≤ lengthOf P m w = within P w h in
+    let few : lengthOf P m w ≤ 65536 = length-bound P W hm hw in
+    record { fits = omega (arith, ea, ep, el, inside); short = omega (arith, el, few) }
+
 -- m polynomials are read within the rest of a string.
 pub reads-rest : (P : Params) → WellFormed P → (m w : ℕ) {a : ℕ} (from : ℕ) (bytes : List ℕ) → a ≡ m * P .n
     → from + lengthOf P m w ≤ length bytes → w * a ≤ 8 * length (take (length bytes - from) (drop from bytes))

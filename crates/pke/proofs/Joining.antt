@@ -4,15 +4,67 @@ use mathlib.Core.List.{List, [], _++_, append-assoc, append-nil}
 use Prim.Native.Nat.{ℕ, zero, suc, _+_, _-_, _*_, _^_, _≤_, _<_}
 use native.Mathlib.Nat.{add-sub-cancel-left, le-step, mul-zero, mul-left-comm}
 use native.Mathlib.Numerals.{add-one}
-use lib.ListN.{length, take, drop, drop-of-length-le}
+use native.Mathlib.Omega.{arith}
+use lib.ListN.{length, take, drop, length-take, length-drop, length-append, drop-of-length-le}
 use lib.Seq.{take-at, drop-at, drop-drop}
 use lib.Pow.{pow-pos}
 use Rattle.hash.specs.Lists.{value, digits}
-use Rattle.hash.proofs.Parts.{patched}
+use Rattle.hash.proofs.Parts.{patched, length-patched, take-patched, patched-rest, take-rest}
 use Rattle.bits.specs.Bits.{Below, pack}
 use Rattle.bits.proofs.Digits.{pack-append}
 use Rattle.kindi.specs.Keys.{joined}
 use Rattle.kindi.proofs.Strings.{length-joined, joined-below}
+use Rattle.pke.proofs.Amounts.{part-length}
+
+-- ---- parts of slices
+
+-- The length of a part from a on.
+pub rest-long : (a : ℕ) (xs : List ℕ) {m : ℕ} → a + m ≤ length xs → m ≤ length (take (length xs - a) (drop a xs))
+rest-long a xs h = rw (take-rest a xs) (simp length-drop (omega arith))
+
+pub rest-is : (a k : ℕ) (xs : List ℕ) → a + k ≡ length xs → length (take (length xs - a) (drop a xs)) ≡ k
+rest-is a k xs e = ap length (take-rest a xs) ∙ simp length-drop (omega arith)
+
+-- A part that has come back as long as it was leaves the slice as long as it was: k entries from a on, all from a on, the first a,
+-- and k entries after the first a.
+pub same-long : (a k : ℕ) (ys xs : List ℕ) → a + k ≤ length xs → length ys ≡ length (take (a + k - a) (drop a xs))
+    → length (patched a (a + k - a) ys xs) ≡ length xs
+same-long a k ys xs h e =
+    let long : a + k - a ≡ k = omega arith in
+    length-patched a (a + k - a) ys xs (e ∙ part-length a k xs h ∙ sym long) (omega arith)
+
+pub rest-same : (a : ℕ) (ys xs : List ℕ) → a ≤ length xs → length ys ≡ length (take (length xs - a) (drop a xs))
+    → length (patched a (length xs - a) ys xs) ≡ length xs
+rest-same a ys xs h e =
+    let long : length ys ≡ length xs - a = e ∙ ap length (take-rest a xs) ∙ length-drop a xs in
+    ap length (patched-rest a ys xs) ∙ simp (length-append, length-take, long) (omega arith)
+
+pub first-same : (a : ℕ) (ys xs : List ℕ) → length ys ≡ length (take a xs) → length (ys ++ drop a xs) ≡ length xs
+first-same a ys xs e = simp (length-append, e, length-take, length-drop) (omega arith)
+
+pub next-same : (a k : ℕ) (ys zs xs : List ℕ) → a + k ≤ length xs → length ys ≡ length (take a xs)
+    → length zs ≡ length (take (a + k - a) (drop a (ys ++ drop a xs))) → length (patched a (a + k - a) zs (ys ++ drop a xs)) ≡ length xs
+next-same a k ys zs xs h e l =
+    let first : length (ys ++ drop a xs) ≡ length xs = first-same a ys xs e in
+    same-long a k zs (ys ++ drop a xs) (rw first h) l ∙ first
+
+-- The first a entries and then the rest, or the next k.
+pub then-rest : (a : ℕ) (xs ys zs : List ℕ) → length ys ≡ a → patched a (length (ys ++ drop a xs) - a) zs (ys ++ drop a xs) ≡ ys ++ zs
+then-rest a xs ys zs e = patched-rest a zs (ys ++ drop a xs) ∙ ap (λ (l : List ℕ). l ++ zs) (take-at ys (drop a xs) a e)
+
+pub then-next : (a k : ℕ) (xs ys zs : List ℕ) → length ys ≡ a → length zs ≡ k → a + k ≤ length xs
+    → take (a + k) (patched a (a + k - a) zs (ys ++ drop a xs)) ≡ ys ++ zs
+then-next a k xs ys zs e l h =
+    let room : a + k ≤ length (ys ++ drop a xs) = simp (length-append, length-drop, e) (omega arith) in
+    ap (λ (j : ℕ). take (a + k) (patched a j zs (ys ++ drop a xs))) (add-sub-cancel-left a k) ∙ take-patched a k zs (ys ++ drop a xs) l room
+    ∙ ap (λ (t : List ℕ). t ++ zs) (take-at ys (drop a xs) a e)
+
+-- ---- parts one after another
+
+-- Nothing is there yet.
+pub joined-none : (g : ℕ → List ℕ) (xs : List ℕ) → xs ≡ joined 0 g ++ xs
+unfolding joined
+joined-none g xs = refl
 
 -- Once part i is written, i + 1 parts are there.
 pub joined-turn : (i at c : ℕ) (g : ℕ → List ℕ) (dst₀ dst ys : List ℕ) → length (joined i g) ≡ at

@@ -2,8 +2,8 @@
 -- Assumes nothing.
 use Rattle.pke.proofs.Cipher.{reduced, part-is, length-reduced-all}
 use Rattle.pke.proofs.Joining.{joined-turn, joined-end}
-use Rattle.pke.proofs.Amounts.{within, length-add, length-none, length-bound, width-bound, part-length}
-use Rattle.kindi.specs.Params.{modulus, width, lengthOf, paddedLength, ciphertextLength}
+use Rattle.pke.proofs.Amounts.{Placed, placed, length-add, length-none, width-bound, part-length}
+use Rattle.kindi.specs.Params.{modulus, width, lengthOf}
 use Rattle.kindi.specs.Streams.{matrixIn, lowIn, smallIn}
 use Rattle.kindi.specs.Encrypt.{factorBy}
 use Rattle.kindi.specs.Keys.{joined}
@@ -58,56 +58,38 @@ factor-requires c κs =
     let h = c .before .before .loop in
     record { room = record { well = pre .factors .room .well; stored-there = pre .factors .room .stored-there; low-there = pre .factors .room .low-there; vector-long = h .inv .3 ∙ pre .factors .room .vector-long }; rows-long = pre .factors .rows-long }
 
-sub-cipher-part : tie.Need-sub-cipher-part Inv-loop μ-loop
-sub-cipher-part c =
-    let a = c .before .before .before .before .before .before .before .before .before .before .before .before .before .before .before .before .before .before .args in
-    let p = a .p in
-    let pre = c .before .before .before .before .before .before .before .before .before .before .before .before .before .before .before .before .before .before .pre in
+-- The errors of a turn in the masked message, and its part of the ciphertext.
+error-is : (c : tie.In-loop Inv-loop μ-loop) → c .before .before .before .before .length-of .result ≡ lengthOf (c .before .before .before .before .before .before .before .before .before .before .before .before .before .before .args .p) 1 (width (c .before .before .before .before .before .before .before .before .before .before .before .before .before .before .args .p))
+error-is c = c .before .before .before .before .length-of .ensures .0 ∙ ap (lengthOf (c .before .before .before .before .before .before .before .before .before .before .before .before .before .before .args .p) 1) (c .before .before .before .before .before .width .ensures)
+
+error-place : (c : tie.In-loop Inv-loop μ-loop) → Placed (c .before .loop .error-at) (c .before .before .before .before .length-of .result) (length (now (c .before .before .before .before .before .before .before .before .before .before .before .before .before .before .args .masked)))
+error-place c =
+    let p = c .before .before .before .before .before .before .before .before .before .before .before .before .before .before .args .p in
+    let pre = c .before .before .before .before .before .before .before .before .before .before .before .before .before .before .pre in
     let W = pre .factors .room .well in
-    let h = c .before .before .before .before .before .loop in
-    let count = c .before .before .before .before .before .before .polynomials .ensures in
-    let fits : lengthOf p (h .j) (width p) + lengthOf p 1 (width p) ≤ paddedLength p = within p (width p) (omega (arith, count)) in
-    let inside : lengthOf p (h .j) (p .k) + lengthOf p 1 (p .k) ≤ ciphertextLength p = within p (p .k) (omega (arith, count)) in
-    let error = c .before .before .before .before .before .before .before .before .length-of .ensures .0 ∙ ap (lengthOf p 1) (c .before .before .before .before .before .before .before .before .before .width .ensures) in
-    let part = c .before .before .before .before .before .before .before .length-of2 .ensures .0 in
-    let small : ciphertextLength p ≤ 65536 = length-bound p W (omega (arith, W .few)) (W .word) in
-    let little : paddedLength p ≤ 65536 = length-bound p W (omega (arith, W .few)) (width-bound p W) in
-    omega (arith, fits, inside, error, part, small, little, h .inv .1, h .inv .2, h .inv .5, pre .masked-long, pre .cipher-long)
+    placed p W (c .before .loop .j) (p .l + 1) (width p) (c .before .loop .inv .1) (error-is c) (pre .masked-long) (omega (arith, c .before .before .polynomials .ensures)) (omega (arith, W .few)) (width-bound p W)
+
+part-place : (c : tie.In-loop Inv-loop μ-loop) → Placed (c .before .loop .at) (c .before .before .before .length-of2 .result) (length (c .before .loop .dst))
+part-place c =
+    let p = c .before .before .before .before .before .before .before .before .before .before .before .before .before .before .args .p in
+    let pre = c .before .before .before .before .before .before .before .before .before .before .before .before .before .before .pre in
+    let W = pre .factors .room .well in
+    let h = c .before .loop in
+    placed p W (h .j) (p .l + 1) (p .k) (h .inv .2) (c .before .before .before .length-of2 .ensures .0) (h .inv .5 ∙ pre .cipher-long) (omega (arith, c .before .before .polynomials .ensures)) (omega (arith, W .few)) (W .word)
+
+sub-cipher-part : tie.Need-sub-cipher-part Inv-loop μ-loop
+sub-cipher-part c = omega (arith, error-place (c .before .before .before .before) .fits)
 
 part-cipher-part-start : tie.Need-part-cipher-part-start Inv-loop μ-loop
-part-cipher-part-start c =
-    let a = c .before .before .before .before .before .before .before .before .before .before .before .before .before .before .before .before .before .before .args in
-    let p = a .p in
-    let pre = c .before .before .before .before .before .before .before .before .before .before .before .before .before .before .before .before .before .before .pre in
-    let W = pre .factors .room .well in
-    let h = c .before .before .before .before .before .loop in
-    let count = c .before .before .before .before .before .before .polynomials .ensures in
-    let fits : lengthOf p (h .j) (width p) + lengthOf p 1 (width p) ≤ paddedLength p = within p (width p) (omega (arith, count)) in
-    let inside : lengthOf p (h .j) (p .k) + lengthOf p 1 (p .k) ≤ ciphertextLength p = within p (p .k) (omega (arith, count)) in
-    let error = c .before .before .before .before .before .before .before .before .length-of .ensures .0 ∙ ap (lengthOf p 1) (c .before .before .before .before .before .before .before .before .before .width .ensures) in
-    let part = c .before .before .before .before .before .before .before .length-of2 .ensures .0 in
-    let small : ciphertextLength p ≤ 65536 = length-bound p W (omega (arith, W .few)) (W .word) in
-    let little : paddedLength p ≤ 65536 = length-bound p W (omega (arith, W .few)) (width-bound p W) in
-    omega (arith, fits, inside, error, part, small, little, h .inv .1, h .inv .2, h .inv .5, pre .masked-long, pre .cipher-long)
+part-cipher-part-start c = omega (arith, error-place (c .before .before .before .before) .fits)
 
 part-cipher-part-end : tie.Need-part-cipher-part-end Inv-loop μ-loop
 part-cipher-part-end c = omega arith
 
 add-cipher-part : tie.Need-add-cipher-part Inv-loop μ-loop
 add-cipher-part c =
-    let a = c .before .before .before .before .before .before .before .before .before .before .before .before .before .before .before .before .before .before .before .before .before .args in
-    let p = a .p in
-    let pre = c .before .before .before .before .before .before .before .before .before .before .before .before .before .before .before .before .before .before .before .before .before .pre in
-    let W = pre .factors .room .well in
-    let h = c .before .before .before .before .before .before .before .before .loop in
-    let count = c .before .before .before .before .before .before .before .before .before .polynomials .ensures in
-    let fits : lengthOf p (h .j) (width p) + lengthOf p 1 (width p) ≤ paddedLength p = within p (width p) (omega (arith, count)) in
-    let inside : lengthOf p (h .j) (p .k) + lengthOf p 1 (p .k) ≤ ciphertextLength p = within p (p .k) (omega (arith, count)) in
-    let error = c .before .before .before .before .before .before .before .before .before .before .before .length-of .ensures .0 ∙ ap (lengthOf p 1) (c .before .before .before .before .before .before .before .before .before .before .before .before .width .ensures) in
-    let part = c .before .before .before .before .before .before .before .before .before .before .length-of2 .ensures .0 in
-    let small : ciphertextLength p ≤ 65536 = length-bound p W (omega (arith, W .few)) (W .word) in
-    let little : paddedLength p ≤ 65536 = length-bound p W (omega (arith, W .few)) (width-bound p W) in
-    omega (arith, fits, inside, error, part, small, little, h .inv .1, h .inv .2, h .inv .5, pre .masked-long, pre .cipher-long)
+    let place = part-place (c .before .before .before .before .before .before .before) in
+    omega (arith, place .fits, place .short)
 
 sub-cipher-part-2 : tie.Need-sub-cipher-part-2 Inv-loop μ-loop
 sub-cipher-part-2 c = omega arith
@@ -116,112 +98,48 @@ part-cipher-part-start-2 : tie.Need-part-cipher-part-start-2 Inv-loop μ-loop
 part-cipher-part-start-2 c = omega arith
 
 part-cipher-part-end-2 : tie.Need-part-cipher-part-end-2 Inv-loop μ-loop
-part-cipher-part-end-2 c =
-    let a = c .before .before .before .before .before .before .before .before .before .before .before .before .before .before .before .before .before .before .before .before .before .args in
-    let p = a .p in
-    let pre = c .before .before .before .before .before .before .before .before .before .before .before .before .before .before .before .before .before .before .before .before .before .pre in
-    let W = pre .factors .room .well in
-    let h = c .before .before .before .before .before .before .before .before .loop in
-    let count = c .before .before .before .before .before .before .before .before .before .polynomials .ensures in
-    let fits : lengthOf p (h .j) (width p) + lengthOf p 1 (width p) ≤ paddedLength p = within p (width p) (omega (arith, count)) in
-    let inside : lengthOf p (h .j) (p .k) + lengthOf p 1 (p .k) ≤ ciphertextLength p = within p (p .k) (omega (arith, count)) in
-    let error = c .before .before .before .before .before .before .before .before .before .before .before .length-of .ensures .0 ∙ ap (lengthOf p 1) (c .before .before .before .before .before .before .before .before .before .before .before .before .width .ensures) in
-    let part = c .before .before .before .before .before .before .before .before .before .before .length-of2 .ensures .0 in
-    let small : ciphertextLength p ≤ 65536 = length-bound p W (omega (arith, W .few)) (W .word) in
-    let little : paddedLength p ≤ 65536 = length-bound p W (omega (arith, W .few)) (width-bound p W) in
-    omega (arith, fits, inside, error, part, small, little, h .inv .1, h .inv .2, h .inv .5, pre .masked-long, pre .cipher-long)
+part-cipher-part-end-2 c = omega (arith, part-place (c .before .before .before .before .before .before .before) .fits)
 
 cipher-part-requires : tie.Need-cipher-part-requires Inv-loop μ-loop
 cipher-part-requires c κs =
-    let a = c .before .before .before .before .before .before .before .before .before .before .before .before .before .before .before .before .before .before .before .before .before .before .args in
-    let p = a .p in
-    let pre = c .before .before .before .before .before .before .before .before .before .before .before .before .before .before .before .before .before .before .before .before .before .before .pre in
-    let W = pre .factors .room .well in
-    let h = c .before .before .before .before .before .before .before .before .before .loop in
-    let count = c .before .before .before .before .before .before .before .before .before .before .polynomials .ensures in
-    let fits : lengthOf p (h .j) (width p) + lengthOf p 1 (width p) ≤ paddedLength p = within p (width p) (omega (arith, count)) in
-    let inside : lengthOf p (h .j) (p .k) + lengthOf p 1 (p .k) ≤ ciphertextLength p = within p (p .k) (omega (arith, count)) in
-    let error = c .before .before .before .before .before .before .before .before .before .before .before .before .length-of .ensures .0 ∙ ap (lengthOf p 1) (c .before .before .before .before .before .before .before .before .before .before .before .before .before .width .ensures) in
-    let part = c .before .before .before .before .before .before .before .before .before .before .before .length-of2 .ensures .0 in
-    let small : ciphertextLength p ≤ 65536 = length-bound p W (omega (arith, W .few)) (W .word) in
-    let little : paddedLength p ≤ 65536 = length-bound p W (omega (arith, W .few)) (width-bound p W) in
-    let bytes = now (a .masked) in (
-      record { well = W; errors-there = rw (take-rest (h .error-at) bytes, length-drop (h .error-at) bytes) omega (arith, fits, inside, error, part, small, little, h .inv .1, h .inv .2, h .inv .5, pre .masked-long, pre .cipher-long); first = c .before .before .before .before .before .before .factor .kept .1 .1 .1 .1 .1 .0 ∙ h .inv .3 ∙ pre .factors .room .vector-long; second = pre .secret-long; sum = h .inv .4 ∙ pre .sum },
-      part-length (h .at) (c .before .before .before .before .before .before .before .before .before .before .before .length-of2 .result) (h .dst) omega (arith, fits, inside, error, part, small, little, h .inv .1, h .inv .2, h .inv .5, pre .masked-long, pre .cipher-long) ∙ part,
+    let turn = c .before .before .before .before .before .before .before .before in
+    let h = turn .before .loop in
+    let pre = turn .before .before .before .before .before .before .before .before .before .before .before .before .before .before .pre in
+    let bytes = now (turn .before .before .before .before .before .before .before .before .before .before .before .before .before .before .args .masked) in (
+      record { well = pre .factors .room .well; errors-there = rw (take-rest (h .error-at) bytes, length-drop (h .error-at) bytes) omega (arith, error-place turn .fits, error-is turn); first = c .before .before .before .before .before .before .factor .kept .1 .1 .1 .1 .1 .0 ∙ h .inv .3 ∙ pre .factors .room .vector-long; second = pre .secret-long; sum = h .inv .4 ∙ pre .sum },
+      part-length (h .at) (turn .before .before .before .length-of2 .result) (h .dst) (part-place turn .fits) ∙ turn .before .before .before .length-of2 .ensures .0,
     )
 
 add-error-at : tie.Need-add-error-at Inv-loop μ-loop
 add-error-at c =
-    let a = c .before .before .before .before .before .before .before .before .before .before .before .before .before .before .before .before .before .before .before .before .before .before .before .before .before .before .before .args in
-    let p = a .p in
-    let pre = c .before .before .before .before .before .before .before .before .before .before .before .before .before .before .before .before .before .before .before .before .before .before .before .before .before .before .before .pre in
-    let W = pre .factors .room .well in
-    let h = c .before .before .before .before .before .before .before .before .before .before .before .before .before .before .loop in
-    let count = c .before .before .before .before .before .before .before .before .before .before .before .before .before .before .before .polynomials .ensures in
-    let fits : lengthOf p (h .j) (width p) + lengthOf p 1 (width p) ≤ paddedLength p = within p (width p) (omega (arith, count)) in
-    let inside : lengthOf p (h .j) (p .k) + lengthOf p 1 (p .k) ≤ ciphertextLength p = within p (p .k) (omega (arith, count)) in
-    let error = c .before .before .before .before .before .before .before .before .before .before .before .before .before .before .before .before .before .length-of .ensures .0 ∙ ap (lengthOf p 1) (c .before .before .before .before .before .before .before .before .before .before .before .before .before .before .before .before .before .before .width .ensures) in
-    let part = c .before .before .before .before .before .before .before .before .before .before .before .before .before .before .before .before .length-of2 .ensures .0 in
-    let small : ciphertextLength p ≤ 65536 = length-bound p W (omega (arith, W .few)) (W .word) in
-    let little : paddedLength p ≤ 65536 = length-bound p W (omega (arith, W .few)) (width-bound p W) in
-    omega (arith, fits, inside, error, part, small, little, h .inv .1, h .inv .2, h .inv .5, pre .masked-long, pre .cipher-long)
+    let place = error-place (c .before .before .before .before .before .before .before .before .before .before .before .before .before) in
+    omega (arith, place .fits, place .short)
 
 add-at : tie.Need-add-at Inv-loop μ-loop
 add-at c =
-    let a = c .before .before .before .before .before .before .before .before .before .before .before .before .before .before .before .before .before .before .before .before .before .before .before .before .before .before .before .args in
-    let p = a .p in
-    let pre = c .before .before .before .before .before .before .before .before .before .before .before .before .before .before .before .before .before .before .before .before .before .before .before .before .before .before .before .pre in
-    let W = pre .factors .room .well in
-    let h = c .before .before .before .before .before .before .before .before .before .before .before .before .before .before .loop in
-    let count = c .before .before .before .before .before .before .before .before .before .before .before .before .before .before .before .polynomials .ensures in
-    let fits : lengthOf p (h .j) (width p) + lengthOf p 1 (width p) ≤ paddedLength p = within p (width p) (omega (arith, count)) in
-    let inside : lengthOf p (h .j) (p .k) + lengthOf p 1 (p .k) ≤ ciphertextLength p = within p (p .k) (omega (arith, count)) in
-    let error = c .before .before .before .before .before .before .before .before .before .before .before .before .before .before .before .before .before .length-of .ensures .0 ∙ ap (lengthOf p 1) (c .before .before .before .before .before .before .before .before .before .before .before .before .before .before .before .before .before .before .width .ensures) in
-    let part = c .before .before .before .before .before .before .before .before .before .before .before .before .before .before .before .before .length-of2 .ensures .0 in
-    let small : ciphertextLength p ≤ 65536 = length-bound p W (omega (arith, W .few)) (W .word) in
-    let little : paddedLength p ≤ 65536 = length-bound p W (omega (arith, W .few)) (width-bound p W) in
-    omega (arith, fits, inside, error, part, small, little, h .inv .1, h .inv .2, h .inv .5, pre .masked-long, pre .cipher-long)
+    let place = part-place (c .before .before .before .before .before .before .before .before .before .before .before .before .before) in
+    omega (arith, place .fits, place .short)
 
 add-j : tie.Need-add-j Inv-loop μ-loop
-add-j c =
-    let a = c .before .before .before .before .before .before .before .before .before .before .before .before .before .before .before .before .before .before .before .before .before .before .before .before .before .before .before .args in
-    let p = a .p in
-    let pre = c .before .before .before .before .before .before .before .before .before .before .before .before .before .before .before .before .before .before .before .before .before .before .before .before .before .before .before .pre in
-    let W = pre .factors .room .well in
-    let h = c .before .before .before .before .before .before .before .before .before .before .before .before .before .before .loop in
-    let count = c .before .before .before .before .before .before .before .before .before .before .before .before .before .before .before .polynomials .ensures in
-    let fits : lengthOf p (h .j) (width p) + lengthOf p 1 (width p) ≤ paddedLength p = within p (width p) (omega (arith, count)) in
-    let inside : lengthOf p (h .j) (p .k) + lengthOf p 1 (p .k) ≤ ciphertextLength p = within p (p .k) (omega (arith, count)) in
-    let error = c .before .before .before .before .before .before .before .before .before .before .before .before .before .before .before .before .before .length-of .ensures .0 ∙ ap (lengthOf p 1) (c .before .before .before .before .before .before .before .before .before .before .before .before .before .before .before .before .before .before .width .ensures) in
-    let part = c .before .before .before .before .before .before .before .before .before .before .before .before .before .before .before .before .length-of2 .ensures .0 in
-    let small : ciphertextLength p ≤ 65536 = length-bound p W (omega (arith, W .few)) (W .word) in
-    let little : paddedLength p ≤ 65536 = length-bound p W (omega (arith, W .few)) (width-bound p W) in
-    omega (arith, W .few, count)
+add-j c = omega (arith, c .before .before .before .before .before .before .before .before .before .before .before .before .before .before .before .before .before .before .before .before .before .before .before .before .before .before .before .pre .factors .room .well .few, c .before .before .before .before .before .before .before .before .before .before .before .before .before .before .before .polynomials .ensures)
 
 loop-less : tie.Need-loop-less Inv-loop μ-loop
 loop-less c = turn-less (omega arith)
 
 loop-again : tie.Need-loop-again Inv-loop μ-loop
 loop-again c =
-    let a = c .before .before .before .before .before .before .before .before .before .before .before .before .before .before .before .before .before .before .before .before .before .before .before .before .before .before .before .args in
+    let turn = c .before .before .before .before .before .before .before .before .before .before .before .before .before in
+    let a = turn .before .before .before .before .before .before .before .before .before .before .before .before .before .before .args in
     let p = a .p in
-    let pre = c .before .before .before .before .before .before .before .before .before .before .before .before .before .before .before .before .before .before .before .before .before .before .before .before .before .before .before .pre in
-    let W = pre .factors .room .well in
-    let h = c .before .before .before .before .before .before .before .before .before .before .before .before .before .before .loop in
-    let count = c .before .before .before .before .before .before .before .before .before .before .before .before .before .before .before .polynomials .ensures in
-    let fits : lengthOf p (h .j) (width p) + lengthOf p 1 (width p) ≤ paddedLength p = within p (width p) (omega (arith, count)) in
-    let inside : lengthOf p (h .j) (p .k) + lengthOf p 1 (p .k) ≤ ciphertextLength p = within p (p .k) (omega (arith, count)) in
-    let error = c .before .before .before .before .before .before .before .before .before .before .before .before .before .before .before .before .before .length-of .ensures .0 ∙ ap (lengthOf p 1) (c .before .before .before .before .before .before .before .before .before .before .before .before .before .before .before .before .before .before .width .ensures) in
-    let part = c .before .before .before .before .before .before .before .before .before .before .before .before .before .before .before .before .length-of2 .ensures .0 in
-    let small : ciphertextLength p ≤ 65536 = length-bound p W (omega (arith, W .few)) (W .word) in
-    let little : paddedLength p ≤ 65536 = length-bound p W (omega (arith, W .few)) (width-bound p W) in
+    let W = turn .before .before .before .before .before .before .before .before .before .before .before .before .before .before .pre .factors .room .well in
+    let h = turn .before .loop in
     let g : ℕ → Poly = λ i. plus (dot (p .l) (p .n) (factorBy p (now (a .pk)) (matrixIn p (now (a .rows))) (lowIn p (now (a .low))) i) (parts (p .n) (now (a .s)))) (smallIn p (now (a .masked)) i) in
     let parts-of : ℕ → List ℕ = λ i. pack (p .k) (residues (modulus p) (p .n) (g i)) in
-    let part-len = c .before .before .before .before .before .before .before .before .before .before .before .before .before .before .before .before .length-of2 .result in
-    let bytes : Below 256 (now (a .masked)) = λ x. c .before .before .before .before .before .before .before .before .before .before .before .before .before .before .before .before .before .before .before .before .before .before .before .shared-slice-known4 .given x .fits in (
-      omega (arith, count),
-      ap₂ _+_ (h .inv .1) error ∙ sym (length-add p (h .j) 1 (width p)),
-      ap₂ _+_ (h .inv .2) part ∙ sym (length-add p (h .j) 1 (p .k)),
+    let part-len = turn .before .before .before .length-of2 .result in
+    let bytes : Below 256 (now (a .masked)) = λ x. turn .before .before .before .before .before .before .before .before .before .before .shared-slice-known4 .given x .fits in (
+      omega (arith, turn .before .before .polynomials .ensures),
+      ap₂ _+_ (h .inv .1) (error-is turn) ∙ sym (length-add p (h .j) 1 (width p)),
+      ap₂ _+_ (h .inv .2) (turn .before .before .before .length-of2 .ensures .0) ∙ sym (length-add p (h .j) 1 (p .k)),
       c .before .before .before .before .before .before .before .before .before .before .before .factor .kept .1 .1 .1 .1 .1 .0 ∙ h .inv .3,
       c .before .before .before .before .cipher-part .kept .1 .1 .1 .1 .0 ∙ h .inv .4,
       same-len-mid (h .at) (h .at + part-len - h .at) (h .dst) (c .before .before .before .before .cipher-part .last .1 .1 .1 .1 .1 .0) (c .before .before .before .before .cipher-part .kept .1 .1 .1 .1 .1 .0) ∙ h .inv .5,

@@ -2,19 +2,19 @@
 -- Assumes nothing.
 use Rattle.kindi.specs.Streams.{matrixIn, coefficient}
 use Rattle.pke.proofs.Reading.{rest-entries}
-use Rattle.pke.proofs.Amounts.{reads-rest, part-length, within, cell, length-add, length-bound, square}
+use Rattle.pke.proofs.Amounts.{Placed, placed, reads-rest, part-length, cell, length-add, square}
 use Rattle.product.proofs.Dots.{row-fits}
 use borrow.Rule.Slice.PartMut.{same-len-mid}
 use Rattle.pke.proofs.Joining.{joined-turn, joined-end}
-use Rattle.kindi.specs.Params.{lengthOf, matrixLength}
+use Rattle.kindi.specs.Params.{lengthOf}
 use Rattle.pke.specs.Vectors.{vector}
 use Rattle.kindi.proofs.Strings.{length-joined}
 use Rattle.kindi.specs.Keys.{joined}
 use Rattle.bits.proofs.Filling.{turn-less}
 use Rattle.ring.proofs.Residues.{length-residues}
 use Rattle.ring.specs.Poly.{residues}
-use Rattle.bits.specs.Bits.{unpack, Below}
-use lib.ListN.{length, take, drop}
+use Rattle.bits.specs.Bits.{Below}
+use lib.ListN.{length, drop}
 use lib.IntN.{pos}
 use Prim.Native.Nat.{ℕ, _+_, _*_, _-_, _≤_}
 use denote.Ref.{now}
@@ -51,52 +51,40 @@ loop-holds c =
     let p = c .before .before .before .before .args .p in
     (omega arith, c .length-of2 .ensures .0 ∙ sym (ap (λ (m : ℕ). lengthOf p m (p .k)) (ap (λ (m : ℕ). m + c .before .before .before .before .args .j) (zero-mul (p .l)) ∙ zero-add (c .before .before .before .before .args .j))), sym (zero-mul (p .n)), refl, refl)
 
-sub-unpack : tie.Need-sub-unpack Inv-loop μ-loop
-sub-unpack c =
+-- The bytes of a turn's polynomial, and its part of the column.
+bytes-place : (c : tie.Then1 Inv-loop μ-loop) → Placed (c .before .before .loop .from) (lengthOf (c .before .before .before .before .before .before .before .args .p) 1 (c .before .before .before .before .before .before .before .args .p .k)) (length (now (c .before .before .before .before .before .before .before .args .rows)))
+bytes-place c =
     let pre = c .before .before .before .before .before .before .before .pre in
-    let a = c .before .before .before .before .before .before .before .args in
-    let p = a .p in
+    let p = c .before .before .before .before .before .before .before .args .p in
     let h = c .before .before .loop in
-    let inside : lengthOf p (h .i * p .l + a .j) (p .k) + lengthOf p 1 (p .k) ≤ matrixLength p = within p (p .k) (cell (omega arith) (pre .2)) in
+    placed p (pre .0) (h .i * p .l + c .before .before .before .before .before .before .before .args .j) (p .l * p .l) (p .k) (h .inv .1) refl (pre .1) (cell (omega arith) (pre .2)) (square (pre .0 .few)) (pre .0 .word)
+
+part-place : (c : tie.Then1 Inv-loop μ-loop) → Placed (c .before .before .loop .at) (c .before .before .before .before .before .before .before .args .p .n) (length (c .before .before .loop .f))
+part-place c =
+    let pre = c .before .before .before .before .before .before .before .pre in
+    let p = c .before .before .before .before .before .before .before .args .p in
+    let h = c .before .before .loop in
     let room : h .i * p .n + p .n ≤ p .l * p .n = row-fits (p .n) (omega arith) in
-    let some : matrixLength p ≤ 65536 = length-bound p (pre .0) (square (pre .0 .few)) (pre .0 .word) in
-    omega (arith, inside, room, some, pre .0 .vector, pre .1, pre .3)
+    record { fits = omega (arith, room, h .inv .2, h .inv .3, pre .3); short = omega (arith, h .inv .3, pre .3, pre .0 .vector) }
+
+sub-unpack : tie.Need-sub-unpack Inv-loop μ-loop
+sub-unpack c = omega (arith, bytes-place c .fits)
 
 part-unpack-start : tie.Need-part-unpack-start Inv-loop μ-loop
-part-unpack-start c =
-    let pre = c .before .before .before .before .before .before .before .pre in
-    let a = c .before .before .before .before .before .before .before .args in
-    let p = a .p in
-    let h = c .before .before .loop in
-    let inside : lengthOf p (h .i * p .l + a .j) (p .k) + lengthOf p 1 (p .k) ≤ matrixLength p = within p (p .k) (cell (omega arith) (pre .2)) in
-    let room : h .i * p .n + p .n ≤ p .l * p .n = row-fits (p .n) (omega arith) in
-    let some : matrixLength p ≤ 65536 = length-bound p (pre .0) (square (pre .0 .few)) (pre .0 .word) in
-    omega (arith, inside, room, some, pre .0 .vector, pre .1, pre .3)
+part-unpack-start c = omega (arith, bytes-place c .fits)
 
 part-unpack-end : tie.Need-part-unpack-end Inv-loop μ-loop
 part-unpack-end c = omega arith
 
 add-unpack : tie.Need-add-unpack Inv-loop μ-loop
 add-unpack c =
-    let pre = c .before .before .before .before .before .before .before .before .pre in
-    let a = c .before .before .before .before .before .before .before .before .args in
-    let p = a .p in
-    let h = c .before .before .before .loop in
-    let inside : lengthOf p (h .i * p .l + a .j) (p .k) + lengthOf p 1 (p .k) ≤ matrixLength p = within p (p .k) (cell (omega arith) (pre .2)) in
-    let room : h .i * p .n + p .n ≤ p .l * p .n = row-fits (p .n) (omega arith) in
-    let some : matrixLength p ≤ 65536 = length-bound p (pre .0) (square (pre .0 .few)) (pre .0 .word) in
-    omega (arith, inside, room, some, pre .0 .vector, pre .1, pre .3)
+    let place = part-place (c .before) in
+    omega (arith, place .fits, place .short)
 
 mul-unpack : tie.Need-mul-unpack Inv-loop μ-loop
 mul-unpack c =
-    let pre = c .before .before .before .before .before .before .before .before .pre in
-    let a = c .before .before .before .before .before .before .before .before .args in
-    let p = a .p in
-    let h = c .before .before .before .loop in
-    let inside : lengthOf p (h .i * p .l + a .j) (p .k) + lengthOf p 1 (p .k) ≤ matrixLength p = within p (p .k) (cell (omega arith) (pre .2)) in
-    let room : h .i * p .n + p .n ≤ p .l * p .n = row-fits (p .n) (omega arith) in
-    let some : matrixLength p ≤ 65536 = length-bound p (pre .0) (square (pre .0 .few)) (pre .0 .word) in
-    omega (arith, inside, room, some, pre .0 .vector, pre .1, pre .3)
+    let place = part-place (c .before) in
+    omega (arith, place .fits, place .short)
 
 sub-unpack-2 : tie.Need-sub-unpack-2 Inv-loop μ-loop
 sub-unpack-2 c = omega arith
@@ -105,85 +93,50 @@ part-unpack-start-2 : tie.Need-part-unpack-start-2 Inv-loop μ-loop
 part-unpack-start-2 c = omega arith
 
 part-unpack-end-2 : tie.Need-part-unpack-end-2 Inv-loop μ-loop
-part-unpack-end-2 c =
-    let pre = c .before .before .before .before .before .before .before .before .pre in
-    let a = c .before .before .before .before .before .before .before .before .args in
-    let p = a .p in
-    let h = c .before .before .before .loop in
-    let inside : lengthOf p (h .i * p .l + a .j) (p .k) + lengthOf p 1 (p .k) ≤ matrixLength p = within p (p .k) (cell (omega arith) (pre .2)) in
-    let room : h .i * p .n + p .n ≤ p .l * p .n = row-fits (p .n) (omega arith) in
-    let some : matrixLength p ≤ 65536 = length-bound p (pre .0) (square (pre .0 .few)) (pre .0 .word) in
-    omega (arith, room, pre .3)
+part-unpack-end-2 c = omega (arith, part-place (c .before) .fits)
 
 unpack-requires : tie.Need-unpack-requires Inv-loop μ-loop
 unpack-requires c κs =
-    let pre = c .before .before .before .before .before .before .before .before .before .pre in
-    let a = c .before .before .before .before .before .before .before .before .before .args in
-    let p = a .p in
-    let h = c .before .before .before .before .loop in
-    let inside : lengthOf p (h .i * p .l + a .j) (p .k) + lengthOf p 1 (p .k) ≤ matrixLength p = within p (p .k) (cell (omega arith) (pre .2)) in
-    let room : h .i * p .n + p .n ≤ p .l * p .n = row-fits (p .n) (omega arith) in
-    let some : matrixLength p ≤ 65536 = length-bound p (pre .0) (square (pre .0 .few)) (pre .0 .word) in
-    let long : length (take (h .at + p .n - h .at) (drop (h .at) (h .f))) ≡ p .n = part-length (h .at) (p .n) (h .f) (omega (arith, room, h .inv .2, h .inv .3, pre .3)) in
-    (pre .0 .word, reads-rest p (pre .0) 1 (p .k) (h .from) (now (a .rows)) (long ∙ sym (one-mul (p .n))) (omega (arith, inside, h .inv .1, pre .1)))
+    let turn = c .before .before in
+    let W = turn .before .before .before .before .before .before .before .pre .0 in
+    let p = turn .before .before .before .before .before .before .before .args .p in
+    let h = turn .before .before .loop in
+    let long = part-length (h .at) (p .n) (h .f) (part-place turn .fits) in
+    (W .word, reads-rest p W 1 (p .k) (h .from) (now (turn .before .before .before .before .before .before .before .args .rows)) (long ∙ sym (one-mul (p .n))) (bytes-place turn .fits))
 
 add-from : tie.Need-add-from Inv-loop μ-loop
 add-from c =
-    let pre = c .before .before .before .before .before .before .before .before .before .before .before .before .pre in
-    let a = c .before .before .before .before .before .before .before .before .before .before .before .before .args in
-    let p = a .p in
-    let h = c .before .before .before .before .before .before .before .loop in
-    let inside : lengthOf p (h .i * p .l + a .j) (p .k) + lengthOf p 1 (p .k) ≤ matrixLength p = within p (p .k) (cell (omega arith) (pre .2)) in
-    let room : h .i * p .n + p .n ≤ p .l * p .n = row-fits (p .n) (omega arith) in
-    let some : matrixLength p ≤ 65536 = length-bound p (pre .0) (square (pre .0 .few)) (pre .0 .word) in
-    let row = c .before .before .before .before .before .before .before .before .before .length-of .ensures in
-    omega (arith, inside, some, h .inv .1, row .1)
+    let place = bytes-place (c .before .before .before .before .before) in
+    omega (arith, place .fits, place .short, c .before .before .before .before .before .before .before .before .before .length-of .ensures .1)
 
 add-at : tie.Need-add-at Inv-loop μ-loop
 add-at c =
-    let pre = c .before .before .before .before .before .before .before .before .before .before .before .before .pre in
-    let a = c .before .before .before .before .before .before .before .before .before .before .before .before .args in
-    let p = a .p in
-    let h = c .before .before .before .before .before .before .before .loop in
-    let inside : lengthOf p (h .i * p .l + a .j) (p .k) + lengthOf p 1 (p .k) ≤ matrixLength p = within p (p .k) (cell (omega arith) (pre .2)) in
-    let room : h .i * p .n + p .n ≤ p .l * p .n = row-fits (p .n) (omega arith) in
-    let some : matrixLength p ≤ 65536 = length-bound p (pre .0) (square (pre .0 .few)) (pre .0 .word) in
-    omega (arith, inside, room, some, pre .0 .vector, pre .1, pre .3)
+    let place = part-place (c .before .before .before .before .before) in
+    omega (arith, place .fits, place .short)
 
 add-i : tie.Need-add-i Inv-loop μ-loop
-add-i c =
-    let pre = c .before .before .before .before .before .before .before .before .before .before .before .before .pre in
-    let a = c .before .before .before .before .before .before .before .before .before .before .before .before .args in
-    let p = a .p in
-    let h = c .before .before .before .before .before .before .before .loop in
-    let inside : lengthOf p (h .i * p .l + a .j) (p .k) + lengthOf p 1 (p .k) ≤ matrixLength p = within p (p .k) (cell (omega arith) (pre .2)) in
-    let room : h .i * p .n + p .n ≤ p .l * p .n = row-fits (p .n) (omega arith) in
-    let some : matrixLength p ≤ 65536 = length-bound p (pre .0) (square (pre .0 .few)) (pre .0 .word) in
-    omega (arith, pre .0 .few)
+add-i c = omega (arith, c .before .before .before .before .before .before .before .before .before .before .before .before .pre .0 .few)
 
 loop-less : tie.Need-loop-less Inv-loop μ-loop
 loop-less c = turn-less (omega arith)
 
 loop-again : tie.Need-loop-again Inv-loop μ-loop
 loop-again c =
-    let pre = c .before .before .before .before .before .before .before .before .before .before .before .before .pre in
-    let a = c .before .before .before .before .before .before .before .before .before .before .before .before .args in
+    let turn = c .before .before .before .before .before in
+    let W = turn .before .before .before .before .before .before .before .pre .0 in
+    let a = turn .before .before .before .before .before .before .before .args in
     let p = a .p in
-    let h = c .before .before .before .before .before .before .before .loop in
-    let inside : lengthOf p (h .i * p .l + a .j) (p .k) + lengthOf p 1 (p .k) ≤ matrixLength p = within p (p .k) (cell (omega arith) (pre .2)) in
-    let room : h .i * p .n + p .n ≤ p .l * p .n = row-fits (p .n) (omega arith) in
-    let some : matrixLength p ≤ 65536 = length-bound p (pre .0) (square (pre .0 .few)) (pre .0 .word) in
-    let row = c .before .before .before .before .before .before .before .before .before .length-of .ensures in
+    let h = turn .before .before .loop in
     let g : ℕ → List ℕ = λ y. residues 65536 (p .n) (matrixIn p (now (a .rows)) y (a .j)) in
-    let bytes : Below 256 (now (a .rows)) = λ x. c .before .before .before .before .before .before .before .before .before .before .before .shared-slice-known .given x .fits in
-    let long : length (take (h .at + p .n - h .at) (drop (h .at) (h .f))) ≡ p .n = part-length (h .at) (p .n) (h .f) (omega (arith, room, h .inv .2, h .inv .3, pre .3)) in
+    let bytes : Below 256 (now (a .rows)) = λ x. turn .before .before .before .before .before .before .shared-slice-known .given x .fits in
+    let long = part-length (h .at) (p .n) (h .f) (part-place turn .fits) in
     let before : length (joined (h .i) g) ≡ h .at = length-joined (h .i) (p .n) g (λ y _. length-residues 65536 (p .n) (matrixIn p (now (a .rows)) y (a .j))) ∙ sym (h .inv .2) in (
       omega arith,
-      ap₂ _+_ (h .inv .1) (row .0) ∙ sym (length-add p (h .i * p .l + a .j) (p .l) (p .k)) ∙ ap (λ (m : ℕ). lengthOf p m (p .k)) (next (h .i) (p .l) (a .j)),
+      ap₂ _+_ (h .inv .1) (turn .before .before .before .before .length-of .ensures .0) ∙ sym (length-add p (h .i * p .l + a .j) (p .l) (p .k)) ∙ ap (λ (m : ℕ). lengthOf p m (p .k)) (next (h .i) (p .l) (a .j)),
       rw add-one (rw suc-mul (ap (λ (m : ℕ). m + p .n) (h .inv .2))),
       same-len-mid (h .at) (h .at + p .n - h .at) (h .f) (c .before .before .unpack .last .1 .1 .0) (c .before .before .unpack .kept .1 .1 .0) ∙ h .inv .3,
       joined-turn (h .i) (h .at) (p .n) g (now (a .f)) (h .f) _ before (h .inv .4)
-          (c .before .before .unpack .ensures ∙ rest-entries p (pre .0) (p .k) (h .i * p .l + a .j) (p .n) (h .from) (now (a .rows)) (pre .0 .word) bytes (h .inv .1) long),
+          (c .before .before .unpack .ensures ∙ rest-entries p W (p .k) (h .i * p .l + a .j) (p .n) (h .from) (now (a .rows)) (W .word) bytes (h .inv .1) long),
     )
 
 same-length : tie.Need-same-length Inv-loop μ-loop

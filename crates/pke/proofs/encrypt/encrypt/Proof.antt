@@ -61,78 +61,42 @@ part-expand-end c = search needs
 slice-relend-prefix-expand : tie.Need-slice-relend-prefix-expand
 slice-relend-prefix-expand c = search needs
 
+-- The part of the work area that the streams fill, before and after.
+abbrev need : tie.After-matrix → ℕ
+need c = c .matrix .result + (c .before .before .before .before .low .result + (c .before .before .before .padded .result + (c .before .before .high .result + c .before .rest .result)))
+
+need-is : (c : tie.After-matrix) → need c ≡ encryptWork (c .before .before .before .before .before .before .before .before .before .before .args .p)
+need-is c = ap₂ _+_ (c .matrix .ensures .0) (ap₂ _+_ (c .before .before .before .before .low .ensures .0) (ap₂ _+_ (c .before .before .before .padded .ensures .0) (ap₂ _+_ (c .before .before .high .ensures .0) (c .before .rest .ensures .0))))
+
+fresh-size : (c : tie.After-matrix) → length (take (need c) (now (c .before .before .before .before .before .before .before .before .before .before .args .work))) ≡ need c
+fresh-size c = simp length-take (omega (arith, need-is c, c .before .before .before .before .before .before .before .before .before .before .pre .work-long))
+
+streams-size : (c : tie.After-expand) → length (c .expand .last .1 .1 .1 .1 .0) ≡ need (c .before .before .before .before)
+streams-size c = c .expand .kept .1 .1 .1 .1 .0 ∙ fresh-size (c .before .before .before .before)
+
+streams : (c : tie.After-expand) → take (need (c .before .before .before .before)) (c .expand .last .1 .1 .1 .1 .0 ++ drop (need (c .before .before .before .before)) (now (c .before .before .before .before .before .before .before .before .before .before .before .before .before .before .args .work))) ≡ c .expand .last .1 .1 .1 .1 .0
+streams c = take-at (c .expand .last .1 .1 .1 .1 .0) (drop (need (c .before .before .before .before)) (now (c .before .before .before .before .before .before .before .before .before .before .before .before .before .before .args .work))) (need (c .before .before .before .before)) (streams-size c)
+
 slice-aggregate-expand : tie.Need-slice-aggregate-expand
-slice-aggregate-expand c =
-    let a = c .before .before .before .before .before .before .before .before .before .before .before .before .before .args in
-    let p = a .p in
-    let pre = c .before .before .before .before .before .before .before .before .before .before .before .before .before .pre in
-    let W = pre .well in
-    let em = c .before .before .before .matrix .ensures .0 in
-    let ea = c .before .before .before .before .before .before .before .low .ensures .0 in
-    let ek = c .before .before .before .before .before .before .padded .ensures .0 in
-    let eh = c .before .before .before .before .before .high .ensures .0 in
-    let er = c .before .before .before .before .rest .ensures .0 in
-    let need : ℕ = c .before .before .before .matrix .result + (c .before .before .before .before .before .before .before .low .result + (c .before .before .before .before .before .before .padded .result + (c .before .before .before .before .before .high .result + c .before .before .before .before .rest .result))) in
-    let whole : need ≡ encryptWork p = ap₂ _+_ em (ap₂ _+_ ea (ap₂ _+_ ek (ap₂ _+_ eh er))) in
-    simp length-take (omega (arith, whole, pre .work-long))
+slice-aggregate-expand c = sym (fresh-size (c .before .before .before))
 
 expand-requires : tie.Need-expand-requires
-expand-requires c κs =
-    let a = c .before .before .before .before .before .before .before .before .before .before .before .before .before .args in
-    let p = a .p in
-    let pre = c .before .before .before .before .before .before .before .before .before .before .before .before .before .pre in
-    let W = pre .well in
-    let em = c .before .before .before .matrix .ensures .0 in
-    let ea = c .before .before .before .before .before .before .before .low .ensures .0 in
-    let ek = c .before .before .before .before .before .before .padded .ensures .0 in
-    let eh = c .before .before .before .before .before .high .ensures .0 in
-    let er = c .before .before .before .before .rest .ensures .0 in
-    let need : ℕ = c .before .before .before .matrix .result + (c .before .before .before .before .before .before .before .low .result + (c .before .before .before .before .before .before .padded .result + (c .before .before .before .before .before .high .result + c .before .before .before .before .rest .result))) in
-    let whole : need ≡ encryptWork p = ap₂ _+_ em (ap₂ _+_ ea (ap₂ _+_ ek (ap₂ _+_ eh er))) in
-    (W, pre .message-fits, simp length-take (omega (arith, whole, pre .work-long)))
+expand-requires c κs = (c .before .before .before .before .before .before .before .before .before .before .before .before .before .pre .well, c .before .before .before .before .before .before .before .before .before .before .before .before .before .pre .message-fits, fresh-size (c .before .before .before) ∙ need-is (c .before .before .before))
 
 slice-reshare-prefix-assemble : tie.Need-slice-reshare-prefix-assemble
 slice-reshare-prefix-assemble c = search needs
 
 slice-aggregate-assemble : tie.Need-slice-aggregate-assemble
-slice-aggregate-assemble c =
-    let a = c .before .before .before .before .before .before .before .before .before .before .before .before .before .before .before .before .before .args in
-    let p = a .p in
-    let pre = c .before .before .before .before .before .before .before .before .before .before .before .before .before .before .before .before .before .pre in
-    let W = pre .well in
-    let em = c .before .before .before .before .before .before .before .matrix .ensures .0 in
-    let ea = c .before .before .before .before .before .before .before .before .before .before .before .low .ensures .0 in
-    let ek = c .before .before .before .before .before .before .before .before .before .before .padded .ensures .0 in
-    let eh = c .before .before .before .before .before .before .before .before .before .high .ensures .0 in
-    let er = c .before .before .before .before .before .before .before .before .rest .ensures .0 in
-    let need : ℕ = c .before .before .before .before .before .before .before .matrix .result + (c .before .before .before .before .before .before .before .before .before .before .before .low .result + (c .before .before .before .before .before .before .before .before .before .before .padded .result + (c .before .before .before .before .before .before .before .before .before .high .result + c .before .before .before .before .before .before .before .before .rest .result))) in
-    let whole : need ≡ encryptWork p = ap₂ _+_ em (ap₂ _+_ ea (ap₂ _+_ ek (ap₂ _+_ eh er))) in
-    let E = c .before .before .before .expand .last .1 .1 .1 .1 .0 in
-    let fresh : length (take need (now (a .work))) ≡ need = simp length-take (omega (arith, whole, pre .work-long)) in
-    let le : length E ≡ need = c .before .before .before .expand .kept .1 .1 .1 .1 .0 ∙ fresh in
-    sym (ap length (take-at E (drop need (now (a .work))) need le) ∙ le)
+slice-aggregate-assemble c = sym (ap length (streams (c .before .before .before)) ∙ streams-size (c .before .before .before))
 
 assemble-requires : tie.Need-assemble-requires
 assemble-requires c κs =
-    let a = c .before .before .before .before .before .before .before .before .before .before .before .before .before .before .before .before .before .before .args in
-    let p = a .p in
     let pre = c .before .before .before .before .before .before .before .before .before .before .before .before .before .before .before .before .before .before .pre in
-    let W = pre .well in
-    let em = c .before .before .before .before .before .before .before .before .matrix .ensures .0 in
-    let ea = c .before .before .before .before .before .before .before .before .before .before .before .before .low .ensures .0 in
-    let ek = c .before .before .before .before .before .before .before .before .before .before .before .padded .ensures .0 in
-    let eh = c .before .before .before .before .before .before .before .before .before .before .high .ensures .0 in
-    let er = c .before .before .before .before .before .before .before .before .before .rest .ensures .0 in
-    let need : ℕ = c .before .before .before .before .before .before .before .before .matrix .result + (c .before .before .before .before .before .before .before .before .before .before .before .before .low .result + (c .before .before .before .before .before .before .before .before .before .before .before .padded .result + (c .before .before .before .before .before .before .before .before .before .before .high .result + c .before .before .before .before .before .before .before .before .before .rest .result))) in
-    let whole : need ≡ encryptWork p = ap₂ _+_ em (ap₂ _+_ ea (ap₂ _+_ ek (ap₂ _+_ eh er))) in
-    let E = c .before .before .before .before .expand .last .1 .1 .1 .1 .0 in
-    let fresh : length (take need (now (a .work))) ≡ need = simp length-take (omega (arith, whole, pre .work-long)) in
-    let le : length E ≡ need = c .before .before .before .before .expand .kept .1 .1 .1 .1 .0 ∙ fresh in
     record {
-      well = W;
+      well = pre .well;
       stored-there = omega (arith, pre .public-long);
       coins-long = pre .coins-long;
-      streams-long = ap length (take-at E (drop need (now (a .work))) need le) ∙ le ∙ whole;
+      streams-long = ap length (streams (c .before .before .before .before)) ∙ streams-size (c .before .before .before .before) ∙ need-is (c .before .before .before .before .before .before .before .before);
       cipher-long = pre .cipher-long;
     }
 
@@ -147,24 +111,13 @@ unfolding matrixSeed
 returns c =
     let a = c .before .before .before .before .before .before .before .before .before .before .before .before .before .before .before .before .before .before .before .before .before .args in
     let p = a .p in
-    let pre = c .before .before .before .before .before .before .before .before .before .before .before .before .before .before .before .before .before .before .before .before .before .pre in
-    let W = pre .well in
-    let em = c .before .before .before .before .before .before .before .before .before .before .before .matrix .ensures .0 in
-    let ea = c .before .before .before .before .before .before .before .before .before .before .before .before .before .before .before .low .ensures .0 in
-    let ek = c .before .before .before .before .before .before .before .before .before .before .before .before .before .before .padded .ensures .0 in
-    let eh = c .before .before .before .before .before .before .before .before .before .before .before .before .before .high .ensures .0 in
-    let er = c .before .before .before .before .before .before .before .before .before .before .before .before .rest .ensures .0 in
-    let need : ℕ = c .before .before .before .before .before .before .before .before .before .before .before .matrix .result + (c .before .before .before .before .before .before .before .before .before .before .before .before .before .before .before .low .result + (c .before .before .before .before .before .before .before .before .before .before .before .before .before .before .padded .result + (c .before .before .before .before .before .before .before .before .before .before .before .before .before .high .result + c .before .before .before .before .before .before .before .before .before .before .before .before .rest .result))) in
-    let whole : need ≡ encryptWork p = ap₂ _+_ em (ap₂ _+_ ea (ap₂ _+_ ek (ap₂ _+_ eh er))) in
-    let E = c .before .before .before .before .before .before .before .expand .last .1 .1 .1 .1 .0 in
-    let fresh : length (take need (now (a .work))) ≡ need = simp length-take (omega (arith, whole, pre .work-long)) in
-    let le : length E ≡ need = c .before .before .before .before .before .before .before .expand .kept .1 .1 .1 .1 .0 ∙ fresh in
-    let seed : take (length (now (a .pk)) - c .before .before .before .before .before .before .before .before .before .before .stored .result) (drop (c .before .before .before .before .before .before .before .before .before .before .stored .result) (now (a .pk))) ≡ matrixSeed p (now (a .pk))
-    = take-rest (c .before .before .before .before .before .before .before .before .before .before .stored .result) (now (a .pk)) ∙ ap (λ (i : ℕ). drop i (now (a .pk))) (c .before .before .before .before .before .before .before .before .before .before .stored .ensures .0) in
+    let at : ℕ = c .before .before .before .before .before .before .before .before .before .before .stored .result in
+    let pk = now (a .pk) in
+    let seed : take (length pk - at) (drop at pk) ≡ matrixSeed p pk = take-rest at pk ∙ ap (λ (i : ℕ). drop i pk) (c .before .before .before .before .before .before .before .before .before .before .stored .ensures .0) in
     c .before .before .assemble .ensures
-    ∙ ap (cipherFrom p (now (a .pk)) (now (a .coins))) (take-at E (drop need (now (a .work))) need le ∙ c .before .before .before .before .before .before .before .expand .ensures
+    ∙ ap (cipherFrom p pk (now (a .coins))) (streams (c .before .before .before .before .before .before .before) ∙ c .before .before .before .before .before .before .before .expand .ensures
     ∙ ap (λ (sd : List ℕ). shake (p .rate) sd (matrixLength p) ++ patched (lowLength p) (paddedLength p) (masked p (now (a .coins)) (now (a .message))) (coinsStream p (now (a .coins)))) seed)
-    ∙ encrypt-is p W (now (a .pk)) (now (a .coins)) (now (a .message))
+    ∙ encrypt-is p (c .before .before .before .before .before .before .before .before .before .before .before .before .before .before .before .before .before .before .before .before .before .pre .well) pk (now (a .coins)) (now (a .message))
 
 pub encrypt-spec : {M : Type 1} → statement M
 encrypt-spec =

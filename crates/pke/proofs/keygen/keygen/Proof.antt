@@ -1,8 +1,10 @@
 -- `pke::keygen::keygen` meets its contract: both streams, the public key, and the three parts of the secret key, each in its place.
 -- Assumes nothing.
 use Rattle.pke.proofs.Amounts.{part-length}
-use Rattle.pke.proofs.Made.{streams-made, streams-long, public-made, secret-made, rest-same, rest-is, next-same, first-same, then-rest}
+use Rattle.pke.proofs.Joining.{rest-is, rest-same, first-same, next-same, then-rest}
+use Rattle.pke.proofs.Made.{keyStreams, streams-made, streams-long, public-made, secret-made}
 use Rattle.hash.proofs.Parts.{patched}
+use Rattle.kindi.specs.Params.{keygenWork}
 use denote.Ref.{now}
 use lib.ListN.{length, take, drop, length-take, length-append}
 use native.Mathlib.Omega.{arith}
@@ -57,43 +59,65 @@ shake-requires-2 c κs = search needs
 slice-reshare-prefix-public-polynomials : tie.Need-slice-reshare-prefix-public-polynomials
 slice-reshare-prefix-public-polynomials c = search needs
 
+-- Both streams, in the work area.
+streams-fit : (c : tie.After-secrets) → c .before .matrix .result + c .secrets .result ≤ length (now (c .before .before .before .before .before .before .before .before .args .work))
+streams-fit c = omega (arith, c .before .matrix .ensures .0, c .secrets .ensures .0, c .before .before .before .before .before .before .before .before .pre .work-long)
+
+abbrev written : tie.After-shake2 → List ℕ
+written c =
+    let m : ℕ = c .before .before .before .before .before .before .before .before .before .before .matrix .result in
+    let s : ℕ = c .before .before .before .before .before .before .before .before .before .secrets .result in
+    take (m + s) (patched m (m + s - m) (c .shake2 .last .1 .1 .0) (c .before .before .before .before .shake .last .1 .1 .0 ++ drop m (now (c .before .before .before .before .before .before .before .before .before .before .before .before .before .before .before .before .before .args .work))))
+
+streams : (c : tie.After-shake2) → written c ≡ keyStreams (c .before .before .before .before .before .before .before .before .before .before .before .before .before .before .before .before .before .args .p) (now (c .before .before .before .before .before .before .before .before .before .before .before .before .before .before .before .before .before .args .mu)) (now (c .before .before .before .before .before .before .before .before .before .before .before .before .before .before .before .before .before .args .gamma))
+streams c =
+    let a = c .before .before .before .before .before .before .before .before .before .before .before .before .before .before .before .before .before .args in
+    streams-made (a .p) (now (a .work)) (now (a .mu)) (now (a .gamma)) (c .before .before .before .before .before .before .before .before .before .before .matrix .ensures .0) (c .before .before .before .before .before .before .before .before .before .secrets .ensures .0) (streams-fit (c .before .before .before .before .before .before .before .before .before)) (c .before .before .before .before .shake .ensures) (c .shake2 .ensures)
+
+streams-size : (c : tie.After-shake2) → length (written c) ≡ keygenWork (c .before .before .before .before .before .before .before .before .before .before .before .before .before .before .before .before .before .args .p)
+streams-size c = ap length (streams c) ∙ streams-long (c .before .before .before .before .before .before .before .before .before .before .before .before .before .before .before .before .before .args .p) (now (c .before .before .before .before .before .before .before .before .before .before .before .before .before .before .before .before .before .args .mu)) (now (c .before .before .before .before .before .before .before .before .before .before .before .before .before .before .before .before .before .args .gamma))
+
+-- The stored polynomials, the public key, and γ after it have room.
+public-part : (c : tie.After-stored) → length (take (c .stored .result) (now (c .before .before .before .before .before .before .before .before .before .args .pk))) ≡ c .stored .result
+public-part c = simp length-take (omega (arith, c .stored .ensures .0, c .before .before .before .before .before .before .before .before .before .pre .public-long))
+
+secret-fits : (c : tie.After-stored) → c .stored .result + c .before .before .before .before .before .before .before .before .before .args .p .seed + c .before .before .before .before .before .before .before .before .before .args .p .seed ≤ length (now (c .before .before .before .before .before .before .before .before .before .args .sk))
+secret-fits c = omega (arith, c .stored .ensures .0, c .before .before .before .before .before .before .before .before .before .pre .secret-long)
+
+secret-part : (c : tie.After-stored) → length (take (c .stored .result + c .before .before .before .before .before .before .before .before .before .args .p .seed) (now (c .before .before .before .before .before .before .before .before .before .args .sk))) ≡ c .stored .result + c .before .before .before .before .before .before .before .before .before .args .p .seed
+secret-part c = simp length-take (omega (arith, secret-fits c))
+
+stored-size : (c : tie.After-public-polynomials) → length (c .public-polynomials .last .1 .1 .0) ≡ c .before .before .before .before .before .before .before .before .before .before .before .before .before .stored .result
+stored-size c = c .public-polynomials .kept .1 .1 .0 ∙ public-part (c .before .before .before .before .before .before .before .before .before .before .before .before .before)
+
+-- The secret key once the public key is written, and once γ is.
+abbrev begun : tie.After-copy2 → List ℕ
+begun c = c .copy2 .last .0 ++ drop (c .before .before .before .before .before .before .before .before .before .before .before .before .before .before .before .before .before .before .before .before .before .before .stored .result + c .before .before .before .before .before .before .before .before .before .before .before .before .before .before .before .before .before .before .before .before .before .before .before .before .before .before .before .before .before .before .before .args .p .seed) (now (c .before .before .before .before .before .before .before .before .before .before .before .before .before .before .before .before .before .before .before .before .before .before .before .before .before .before .before .before .before .before .before .args .sk))
+
+begun-same : (c : tie.After-copy2) → length (begun c) ≡ length (now (c .before .before .before .before .before .before .before .before .before .before .before .before .before .before .before .before .before .before .before .before .before .before .before .before .before .before .before .before .before .before .before .args .sk))
+begun-same c = first-same (c .before .before .before .before .before .before .before .before .before .before .before .before .before .before .before .before .before .before .before .before .before .before .stored .result + c .before .before .before .before .before .before .before .before .before .before .before .before .before .before .before .before .before .before .before .before .before .before .before .before .before .before .before .before .before .before .before .args .p .seed) (c .copy2 .last .0) (now (c .before .before .before .before .before .before .before .before .before .before .before .before .before .before .before .before .before .before .before .before .before .before .before .before .before .before .before .before .before .before .before .args .sk)) (c .copy2 .kept .0)
+
+abbrev later : tie.After-copy3 → List ℕ
+later c =
+    let q : ℕ = c .before .before .before .before .before .before .before .before .before .before .before .before .before .before .before .before .before .before .before .before .before .before .before .before .before .before .stored .result + c .before .before .before .before .before .before .before .before .before .before .before .before .before .before .before .before .before .before .before .before .before .before .before .before .before .before .before .before .before .before .before .before .before .before .before .args .p .seed in
+    patched q (q + c .before .before .before .before .before .before .before .before .before .before .before .before .before .before .before .before .before .before .before .before .before .before .before .before .before .before .before .before .before .before .before .before .before .before .before .args .p .seed - q) (c .copy3 .last .0) (begun (c .before .before .before .before))
+
+later-same : (c : tie.After-copy3) → length (later c) ≡ length (now (c .before .before .before .before .before .before .before .before .before .before .before .before .before .before .before .before .before .before .before .before .before .before .before .before .before .before .before .before .before .before .before .before .before .before .before .args .sk))
+later-same c =
+    let p = c .before .before .before .before .before .before .before .before .before .before .before .before .before .before .before .before .before .before .before .before .before .before .before .before .before .before .before .before .before .before .before .before .before .before .before .args .p in
+    next-same (c .before .before .before .before .before .before .before .before .before .before .before .before .before .before .before .before .before .before .before .before .before .before .before .before .before .before .stored .result + p .seed) (p .seed) (c .before .before .before .before .copy2 .last .0) (c .copy3 .last .0) (now (c .before .before .before .before .before .before .before .before .before .before .before .before .before .before .before .before .before .before .before .before .before .before .before .before .before .before .before .before .before .before .before .before .before .before .before .args .sk)) (secret-fits (c .before .before .before .before .before .before .before .before .before .before .before .before .before .before .before .before .before .before .before .before .before .before .before .before .before .before)) (c .before .before .before .before .copy2 .kept .0) (c .copy3 .kept .0)
+
 slice-aggregate-public-polynomials : tie.Need-slice-aggregate-public-polynomials
-slice-aggregate-public-polynomials c =
-    let a = c .before .before .before .before .before .before .before .before .before .before .before .before .before .before .before .before .before .before .before .before .args in
-    let p = a .p in
-    let pre = c .before .before .before .before .before .before .before .before .before .before .before .before .before .before .before .before .before .before .before .before .pre in
-    let m : ℕ = c .before .before .before .before .before .before .before .before .before .before .before .before .before .matrix .result in
-    let s : ℕ = c .before .before .before .before .before .before .before .before .before .before .before .before .secrets .result in
-    let is-m = c .before .before .before .before .before .before .before .before .before .before .before .before .before .matrix .ensures .0 in
-    let is-s = c .before .before .before .before .before .before .before .before .before .before .before .before .secrets .ensures .0 in
-    let room : m + s ≤ length (now (a .work)) = omega (arith, is-m, is-s, pre .work-long) in
-    let made = streams-made p (now (a .work)) (now (a .mu)) (now (a .gamma)) is-m is-s room
-    (c .before .before .before .before .before .before .before .shake .ensures) (c .before .before .before .shake2 .ensures) in
-    sym (ap length made ∙ streams-long p (now (a .mu)) (now (a .gamma)) ∙ ap₂ _+_ (sym is-m) (sym is-s))
+slice-aggregate-public-polynomials c = sym (streams-size (c .before .before .before) ∙ ap₂ _+_ (sym (c .before .before .before .before .before .before .before .before .before .before .before .before .before .matrix .ensures .0)) (sym (c .before .before .before .before .before .before .before .before .before .before .before .before .secrets .ensures .0)))
 
 slice-relend-prefix-public-polynomials : tie.Need-slice-relend-prefix-public-polynomials
 slice-relend-prefix-public-polynomials c = search needs
 
 slice-aggregate-public-polynomials-2 : tie.Need-slice-aggregate-public-polynomials-2
-slice-aggregate-public-polynomials-2 c =
-    let pre = c .before .before .before .before .before .before .before .before .before .before .before .before .before .before .before .before .before .before .before .before .before .pre in
-    let is = c .before .before .before .before .before .before .before .before .before .before .before .before .stored .ensures .0 in
-    simp length-take (omega (arith, is, pre .public-long))
+slice-aggregate-public-polynomials-2 c = sym (public-part (c .before .before .before .before .before .before .before .before .before .before .before .before))
 
 public-polynomials-requires : tie.Need-public-polynomials-requires
-public-polynomials-requires c κs =
-    let a = c .before .before .before .before .before .before .before .before .before .before .before .before .before .before .before .before .before .before .before .before .before .args in
-    let p = a .p in
-    let pre = c .before .before .before .before .before .before .before .before .before .before .before .before .before .before .before .before .before .before .before .before .before .pre in
-    let m : ℕ = c .before .before .before .before .before .before .before .before .before .before .before .before .before .before .matrix .result in
-    let s : ℕ = c .before .before .before .before .before .before .before .before .before .before .before .before .before .secrets .result in
-    let is-m = c .before .before .before .before .before .before .before .before .before .before .before .before .before .before .matrix .ensures .0 in
-    let is-s = c .before .before .before .before .before .before .before .before .before .before .before .before .before .secrets .ensures .0 in
-    let room : m + s ≤ length (now (a .work)) = omega (arith, is-m, is-s, pre .work-long) in
-    let made = streams-made p (now (a .work)) (now (a .mu)) (now (a .gamma)) is-m is-s room
-    (c .before .before .before .before .before .before .before .before .shake .ensures) (c .before .before .before .before .shake2 .ensures) in
-    let is = c .before .before .before .before .before .before .before .before .before .before .before .before .stored .ensures .0 in
-    (pre .well, ap length made ∙ streams-long p (now (a .mu)) (now (a .gamma)), simp length-take (omega (arith, is, pre .public-long)))
+public-polynomials-requires c κs = (c .before .before .before .before .before .before .before .before .before .before .before .before .before .before .before .before .before .before .before .before .before .pre .well, streams-size (c .before .before .before .before), public-part (c .before .before .before .before .before .before .before .before .before .before .before .before) ∙ c .before .before .before .before .before .before .before .before .before .before .before .before .stored .ensures .0)
 
 sub-copy : tie.Need-sub-copy
 sub-copy c = search needs
@@ -108,30 +132,20 @@ copy-requires : tie.Need-copy-requires
 copy-requires c κs = search needs
 
 slice-relend-prefix-copy : tie.Need-slice-relend-prefix-copy
-slice-relend-prefix-copy c =
-    let pre = c .before .before .before .before .before .before .before .before .before .before .before .before .before .before .before .before .before .before .before .before .before .before .before .before .before .before .before .before .pre in
-    let is = c .before .before .before .before .before .before .before .before .before .before .before .before .before .before .before .before .before .before .before .stored .ensures .0 in
-    omega (arith, is, pre .secret-long)
+slice-relend-prefix-copy c = omega (arith, secret-fits (c .before .before .before .before .before .before .before .before .before .before .before .before .before .before .before .before .before .before .before))
 
 slice-aggregate-copy : tie.Need-slice-aggregate-copy
-slice-aggregate-copy c =
-    let pre = c .before .before .before .before .before .before .before .before .before .before .before .before .before .before .before .before .before .before .before .before .before .before .before .before .before .before .before .before .before .pre in
-    let is = c .before .before .before .before .before .before .before .before .before .before .before .before .before .before .before .before .before .before .before .before .stored .ensures .0 in
-    simp length-take (omega (arith, is, pre .secret-long))
+slice-aggregate-copy c = sym (secret-part (c .before .before .before .before .before .before .before .before .before .before .before .before .before .before .before .before .before .before .before .before))
 
 copy-requires-2 : tie.Need-copy-requires-2
 copy-requires-2 c κs =
-    let a = c .before .before .before .before .before .before .before .before .before .before .before .before .before .before .before .before .before .before .before .before .before .before .before .before .before .before .before .before .before .before .args in
-    let p = a .p in
-    let pre = c .before .before .before .before .before .before .before .before .before .before .before .before .before .before .before .before .before .before .before .before .before .before .before .before .before .before .before .before .before .before .pre in
     let n : ℕ = c .before .before .before .before .before .before .before .before .before .before .before .before .before .before .before .before .before .before .before .before .before .stored .result in
-    let is = c .before .before .before .before .before .before .before .before .before .before .before .before .before .before .before .before .before .before .before .before .before .stored .ensures .0 in
+    let pre = c .before .before .before .before .before .before .before .before .before .before .before .before .before .before .before .before .before .before .before .before .before .before .before .before .before .before .before .before .before .before .pre in
     let stored : List ℕ = c .before .before .before .before .before .before .before .before .public-polynomials .last .1 .1 .0 in
-    let long : length stored ≡ n = c .before .before .before .before .before .before .before .before .public-polynomials .kept .1 .1 .0 ∙ simp length-take (omega (arith, is, pre .public-long)) in
     let seed : List ℕ = c .before .before .before .before .copy .last .0 in
-    let there : length (take (n + p .seed) (now (a .sk))) ≡ n + p .seed = simp length-take (omega (arith, is, pre .secret-long)) in
-    let whole = ap length (then-rest n (now (a .pk)) stored seed long) ∙ length-append stored seed in
-    there ∙ sym (whole ∙ ap₂ _+_ long (ap length (c .before .before .before .before .copy .ensures) ∙ pre .μ-long))
+    let long = stored-size (c .before .before .before .before .before .before .before .before) in
+    let whole = ap length (then-rest n (now (c .before .before .before .before .before .before .before .before .before .before .before .before .before .before .before .before .before .before .before .before .before .before .before .before .before .before .before .before .before .before .args .pk)) stored seed long) ∙ length-append stored seed in
+    secret-part (c .before .before .before .before .before .before .before .before .before .before .before .before .before .before .before .before .before .before .before .before .before) ∙ sym (whole ∙ ap₂ _+_ long (ap length (c .before .before .before .before .copy .ensures) ∙ pre .μ-long))
 
 sub-copy-2 : tie.Need-sub-copy-2
 sub-copy-2 c = search needs
@@ -140,78 +154,27 @@ part-copy-start-2 : tie.Need-part-copy-start-2
 part-copy-start-2 c = search needs
 
 part-copy-end-2 : tie.Need-part-copy-end-2
-part-copy-end-2 c =
-    let a = c .before .before .before .before .before .before .before .before .before .before .before .before .before .before .before .before .before .before .before .before .before .before .before .before .before .before .before .before .before .before .before .before .before .args in
-    let p = a .p in
-    let pre = c .before .before .before .before .before .before .before .before .before .before .before .before .before .before .before .before .before .before .before .before .before .before .before .before .before .before .before .before .before .before .before .before .before .pre in
-    let n : ℕ = c .before .before .before .before .before .before .before .before .before .before .before .before .before .before .before .before .before .before .before .before .before .before .before .before .stored .result in
-    let is = c .before .before .before .before .before .before .before .before .before .before .before .before .before .before .before .before .before .before .before .before .before .before .before .before .stored .ensures .0 in
-    let q : ℕ = n + p .seed in
-    let room : q + p .seed ≤ length (now (a .sk)) = omega (arith, is, pre .secret-long) in
-    let key : List ℕ = c .before .before .copy2 .last .0 in
-    let first = first-same q key (now (a .sk)) (c .before .before .copy2 .kept .0) in
-    omega (arith, room, first)
+part-copy-end-2 c = omega (arith, secret-fits (c .before .before .before .before .before .before .before .before .before .before .before .before .before .before .before .before .before .before .before .before .before .before .before .before), begun-same (c .before .before))
 
 copy-requires-3 : tie.Need-copy-requires-3
 copy-requires-3 c κs =
-    let a = c .before .before .before .before .before .before .before .before .before .before .before .before .before .before .before .before .before .before .before .before .before .before .before .before .before .before .before .before .before .before .before .before .before .before .args in
-    let p = a .p in
-    let pre = c .before .before .before .before .before .before .before .before .before .before .before .before .before .before .before .before .before .before .before .before .before .before .before .before .before .before .before .before .before .before .before .before .before .before .pre in
-    let n : ℕ = c .before .before .before .before .before .before .before .before .before .before .before .before .before .before .before .before .before .before .before .before .before .before .before .before .before .stored .result in
-    let is = c .before .before .before .before .before .before .before .before .before .before .before .before .before .before .before .before .before .before .before .before .before .before .before .before .before .stored .ensures .0 in
-    let q : ℕ = n + p .seed in
-    let room : q + p .seed ≤ length (now (a .sk)) = omega (arith, is, pre .secret-long) in
-    let key : List ℕ = c .before .before .before .copy2 .last .0 in
-    let first = first-same q key (now (a .sk)) (c .before .before .before .copy2 .kept .0) in
-    part-length q (p .seed) (key ++ drop q (now (a .sk))) (rw first room) ∙ sym (pre .γ-long)
+    let p = c .before .before .before .before .before .before .before .before .before .before .before .before .before .before .before .before .before .before .before .before .before .before .before .before .before .before .before .before .before .before .before .before .before .before .args .p in
+    part-length (c .before .before .before .before .before .before .before .before .before .before .before .before .before .before .before .before .before .before .before .before .before .before .before .before .before .stored .result + p .seed) (p .seed) _ (rw (begun-same (c .before .before .before)) (secret-fits (c .before .before .before .before .before .before .before .before .before .before .before .before .before .before .before .before .before .before .before .before .before .before .before .before .before))) ∙ sym (c .before .before .before .before .before .before .before .before .before .before .before .before .before .before .before .before .before .before .before .before .before .before .before .before .before .before .before .before .before .before .before .before .before .before .pre .γ-long)
 
 sub-copy-3 : tie.Need-sub-copy-3
-sub-copy-3 c =
-    let a = c .before .before .before .before .before .before .before .before .before .before .before .before .before .before .before .before .before .before .before .before .before .before .before .before .before .before .before .before .before .before .before .before .before .before .before .before .before .args in
-    let p = a .p in
-    let pre = c .before .before .before .before .before .before .before .before .before .before .before .before .before .before .before .before .before .before .before .before .before .before .before .before .before .before .before .before .before .before .before .before .before .before .before .before .before .pre in
-    let n : ℕ = c .before .before .before .before .before .before .before .before .before .before .before .before .before .before .before .before .before .before .before .before .before .before .before .before .before .before .before .before .stored .result in
-    let is = c .before .before .before .before .before .before .before .before .before .before .before .before .before .before .before .before .before .before .before .before .before .before .before .before .before .before .before .before .stored .ensures .0 in
-    let q : ℕ = n + p .seed in
-    let room : q + p .seed ≤ length (now (a .sk)) = omega (arith, is, pre .secret-long) in
-    let key : List ℕ = c .before .before .before .before .before .before .copy2 .last .0 in
-    let seed : List ℕ = c .before .before .copy3 .last .0 in
-    let sk : List ℕ = patched q (q + p .seed - q) seed (key ++ drop q (now (a .sk))) in
-    let same : length sk ≡ length (now (a .sk)) = next-same q (p .seed) key seed (now (a .sk)) room (c .before .before .before .before .before .before .copy2 .kept .0) (c .before .before .copy3 .kept .0) in
-    omega (arith, room, same)
+sub-copy-3 c = omega (arith, secret-fits (c .before .before .before .before .before .before .before .before .before .before .before .before .before .before .before .before .before .before .before .before .before .before .before .before .before .before .before .before), later-same (c .before .before))
 
 part-copy-start-3 : tie.Need-part-copy-start-3
-part-copy-start-3 c =
-    let a = c .before .before .before .before .before .before .before .before .before .before .before .before .before .before .before .before .before .before .before .before .before .before .before .before .before .before .before .before .before .before .before .before .before .before .before .before .before .args in
-    let p = a .p in
-    let pre = c .before .before .before .before .before .before .before .before .before .before .before .before .before .before .before .before .before .before .before .before .before .before .before .before .before .before .before .before .before .before .before .before .before .before .before .before .before .pre in
-    let n : ℕ = c .before .before .before .before .before .before .before .before .before .before .before .before .before .before .before .before .before .before .before .before .before .before .before .before .before .before .before .before .stored .result in
-    let is = c .before .before .before .before .before .before .before .before .before .before .before .before .before .before .before .before .before .before .before .before .before .before .before .before .before .before .before .before .stored .ensures .0 in
-    let q : ℕ = n + p .seed in
-    let room : q + p .seed ≤ length (now (a .sk)) = omega (arith, is, pre .secret-long) in
-    let key : List ℕ = c .before .before .before .before .before .before .copy2 .last .0 in
-    let seed : List ℕ = c .before .before .copy3 .last .0 in
-    let sk : List ℕ = patched q (q + p .seed - q) seed (key ++ drop q (now (a .sk))) in
-    let same : length sk ≡ length (now (a .sk)) = next-same q (p .seed) key seed (now (a .sk)) room (c .before .before .before .before .before .before .copy2 .kept .0) (c .before .before .copy3 .kept .0) in
-    omega (arith, room, same)
+part-copy-start-3 c = omega (arith, secret-fits (c .before .before .before .before .before .before .before .before .before .before .before .before .before .before .before .before .before .before .before .before .before .before .before .before .before .before .before .before), later-same (c .before .before))
 
 part-copy-end-3 : tie.Need-part-copy-end-3
 part-copy-end-3 c = search needs
 
 copy-requires-4 : tie.Need-copy-requires-4
 copy-requires-4 c κs =
-    let a = c .before .before .before .before .before .before .before .before .before .before .before .before .before .before .before .before .before .before .before .before .before .before .before .before .before .before .before .before .before .before .before .before .before .before .before .before .before .before .args in
-    let p = a .p in
+    let p = c .before .before .before .before .before .before .before .before .before .before .before .before .before .before .before .before .before .before .before .before .before .before .before .before .before .before .before .before .before .before .before .before .before .before .before .before .before .before .args .p in
     let pre = c .before .before .before .before .before .before .before .before .before .before .before .before .before .before .before .before .before .before .before .before .before .before .before .before .before .before .before .before .before .before .before .before .before .before .before .before .before .before .pre in
-    let n : ℕ = c .before .before .before .before .before .before .before .before .before .before .before .before .before .before .before .before .before .before .before .before .before .before .before .before .before .before .before .before .before .stored .result in
-    let is = c .before .before .before .before .before .before .before .before .before .before .before .before .before .before .before .before .before .before .before .before .before .before .before .before .before .before .before .before .before .stored .ensures .0 in
-    let q : ℕ = n + p .seed in
-    let room : q + p .seed ≤ length (now (a .sk)) = omega (arith, is, pre .secret-long) in
-    let key : List ℕ = c .before .before .before .before .before .before .before .copy2 .last .0 in
-    let seed : List ℕ = c .before .before .before .copy3 .last .0 in
-    let sk : List ℕ = patched q (q + p .seed - q) seed (key ++ drop q (now (a .sk))) in
-    let same : length sk ≡ length (now (a .sk)) = next-same q (p .seed) key seed (now (a .sk)) room (c .before .before .before .before .before .before .before .copy2 .kept .0) (c .before .before .before .copy3 .kept .0) in
-    rest-is (q + p .seed) (p .seed) sk (omega (arith, same, is, pre .secret-long)) ∙ sym (pre .z-long)
+    rest-is (c .before .before .before .before .before .before .before .before .before .before .before .before .before .before .before .before .before .before .before .before .before .before .before .before .before .before .before .before .before .stored .result + p .seed + p .seed) (p .seed) (later (c .before .before .before)) (omega (arith, later-same (c .before .before .before), c .before .before .before .before .before .before .before .before .before .before .before .before .before .before .before .before .before .before .before .before .before .before .before .before .before .before .before .before .before .stored .ensures .0, pre .secret-long)) ∙ sym (pre .z-long)
 
 same-length : tie.Need-same-length
 same-length c =
@@ -225,53 +188,23 @@ same-length c =
 
 same-length-2 : tie.Need-same-length-2
 same-length-2 c =
-    let a = c .before .before .before .before .before .before .before .before .before .before .before .before .before .before .before .before .before .before .before .before .before .before .before .before .before .before .before .before .before .before .before .before .before .before .before .before .before .before .before .before .before .args in
-    let p = a .p in
-    let pre = c .before .before .before .before .before .before .before .before .before .before .before .before .before .before .before .before .before .before .before .before .before .before .before .before .before .before .before .before .before .before .before .before .before .before .before .before .before .before .before .before .before .pre in
-    let n : ℕ = c .before .before .before .before .before .before .before .before .before .before .before .before .before .before .before .before .before .before .before .before .before .before .before .before .before .before .before .before .before .before .before .before .stored .result in
-    let is = c .before .before .before .before .before .before .before .before .before .before .before .before .before .before .before .before .before .before .before .before .before .before .before .before .before .before .before .before .before .before .before .before .stored .ensures .0 in
-    let q : ℕ = n + p .seed in
-    let room : q + p .seed ≤ length (now (a .sk)) = omega (arith, is, pre .secret-long) in
-    let key : List ℕ = c .before .before .before .before .before .before .before .before .before .before .copy2 .last .0 in
-    let seed : List ℕ = c .before .before .before .before .before .before .copy3 .last .0 in
-    let sk : List ℕ = patched q (q + p .seed - q) seed (key ++ drop q (now (a .sk))) in
-    let same : length sk ≡ length (now (a .sk)) = next-same q (p .seed) key seed (now (a .sk)) room (c .before .before .before .before .before .before .before .before .before .before .copy2 .kept .0) (c .before .before .before .before .before .before .copy3 .kept .0) in
-    rest-same (q + p .seed) (c .before .before .copy4 .last .0) sk (omega (arith, same, room)) (c .before .before .copy4 .kept .0) ∙ same
+    let p = c .before .before .before .before .before .before .before .before .before .before .before .before .before .before .before .before .before .before .before .before .before .before .before .before .before .before .before .before .before .before .before .before .before .before .before .before .before .before .before .before .before .args .p in
+    let same = later-same (c .before .before .before .before .before .before) in
+    rest-same (c .before .before .before .before .before .before .before .before .before .before .before .before .before .before .before .before .before .before .before .before .before .before .before .before .before .before .before .before .before .before .before .before .stored .result + p .seed + p .seed) (c .before .before .copy4 .last .0) (later (c .before .before .before .before .before .before)) (omega (arith, same, secret-fits (c .before .before .before .before .before .before .before .before .before .before .before .before .before .before .before .before .before .before .before .before .before .before .before .before .before .before .before .before .before .before .before .before))) (c .before .before .copy4 .kept .0) ∙ same
 
 same-length-3 : tie.Need-same-length-3
 same-length-3 c =
-    let a = c .before .before .before .before .before .before .before .before .before .before .before .before .before .before .before .before .before .before .before .before .before .before .before .before .before .before .before .before .before .before .before .before .before .before .before .before .before .before .before .before .before .args in
-    let pre = c .before .before .before .before .before .before .before .before .before .before .before .before .before .before .before .before .before .before .before .before .before .before .before .before .before .before .before .before .before .before .before .before .before .before .before .before .before .before .before .before .before .pre in
-    let m : ℕ = c .before .before .before .before .before .before .before .before .before .before .before .before .before .before .before .before .before .before .before .before .before .before .before .before .before .before .before .before .before .before .before .before .before .before .matrix .result in
-    let s : ℕ = c .before .before .before .before .before .before .before .before .before .before .before .before .before .before .before .before .before .before .before .before .before .before .before .before .before .before .before .before .before .before .before .before .before .secrets .result in
-    let is-m = c .before .before .before .before .before .before .before .before .before .before .before .before .before .before .before .before .before .before .before .before .before .before .before .before .before .before .before .before .before .before .before .before .before .before .matrix .ensures .0 in
-    let is-s = c .before .before .before .before .before .before .before .before .before .before .before .before .before .before .before .before .before .before .before .before .before .before .before .before .before .before .before .before .before .before .before .before .before .secrets .ensures .0 in
-    let room : m + s ≤ length (now (a .work)) = omega (arith, is-m, is-s, pre .work-long) in
-    next-same m s (c .before .before .before .before .before .before .before .before .before .before .before .before .before .before .before .before .before .before .before .before .before .before .before .before .before .before .before .before .shake .last .1 .1 .0) (c .before .before .before .before .before .before .before .before .before .before .before .before .before .before .before .before .before .before .before .before .before .before .before .before .shake2 .last .1 .1 .0) (now (a .work)) room
+    next-same (c .before .before .before .before .before .before .before .before .before .before .before .before .before .before .before .before .before .before .before .before .before .before .before .before .before .before .before .before .before .before .before .before .before .before .matrix .result) (c .before .before .before .before .before .before .before .before .before .before .before .before .before .before .before .before .before .before .before .before .before .before .before .before .before .before .before .before .before .before .before .before .before .secrets .result) (c .before .before .before .before .before .before .before .before .before .before .before .before .before .before .before .before .before .before .before .before .before .before .before .before .before .before .before .before .shake .last .1 .1 .0) (c .before .before .before .before .before .before .before .before .before .before .before .before .before .before .before .before .before .before .before .before .before .before .before .before .shake2 .last .1 .1 .0) (now (c .before .before .before .before .before .before .before .before .before .before .before .before .before .before .before .before .before .before .before .before .before .before .before .before .before .before .before .before .before .before .before .before .before .before .before .before .before .before .before .before .before .args .work)) (streams-fit (c .before .before .before .before .before .before .before .before .before .before .before .before .before .before .before .before .before .before .before .before .before .before .before .before .before .before .before .before .before .before .before .before .before))
     (c .before .before .before .before .before .before .before .before .before .before .before .before .before .before .before .before .before .before .before .before .before .before .before .before .before .before .before .before .shake .kept .1 .1 .0) (c .before .before .before .before .before .before .before .before .before .before .before .before .before .before .before .before .before .before .before .before .before .before .before .before .shake2 .kept .1 .1 .0)
 
 returns : tie.Need-returns
 returns c =
     let a = c .before .before .before .before .before .before .before .before .before .before .before .before .before .before .before .before .before .before .before .before .before .before .before .before .before .before .before .before .before .before .before .before .before .before .before .before .before .before .before .before .before .args in
     let p = a .p in
-    let pre = c .before .before .before .before .before .before .before .before .before .before .before .before .before .before .before .before .before .before .before .before .before .before .before .before .before .before .before .before .before .before .before .before .before .before .before .before .before .before .before .before .before .pre in
-    let m : ℕ = c .before .before .before .before .before .before .before .before .before .before .before .before .before .before .before .before .before .before .before .before .before .before .before .before .before .before .before .before .before .before .before .before .before .before .matrix .result in
-    let s : ℕ = c .before .before .before .before .before .before .before .before .before .before .before .before .before .before .before .before .before .before .before .before .before .before .before .before .before .before .before .before .before .before .before .before .before .secrets .result in
-    let is-m = c .before .before .before .before .before .before .before .before .before .before .before .before .before .before .before .before .before .before .before .before .before .before .before .before .before .before .before .before .before .before .before .before .before .before .matrix .ensures .0 in
-    let is-s = c .before .before .before .before .before .before .before .before .before .before .before .before .before .before .before .before .before .before .before .before .before .before .before .before .before .before .before .before .before .before .before .before .before .secrets .ensures .0 in
-    let room : m + s ≤ length (now (a .work)) = omega (arith, is-m, is-s, pre .work-long) in
-    let made = streams-made p (now (a .work)) (now (a .mu)) (now (a .gamma)) is-m is-s room
-    (c .before .before .before .before .before .before .before .before .before .before .before .before .before .before .before .before .before .before .before .before .before .before .before .before .before .before .before .before .shake .ensures) (c .before .before .before .before .before .before .before .before .before .before .before .before .before .before .before .before .before .before .before .before .before .before .before .before .shake2 .ensures) in
-    let n : ℕ = c .before .before .before .before .before .before .before .before .before .before .before .before .before .before .before .before .before .before .before .before .before .before .before .before .before .before .before .before .before .before .before .before .stored .result in
-    let is = c .before .before .before .before .before .before .before .before .before .before .before .before .before .before .before .before .before .before .before .before .before .before .before .before .before .before .before .before .before .before .before .before .stored .ensures .0 in
-    let stored : List ℕ = c .before .before .before .before .before .before .before .before .before .before .before .before .before .before .before .before .before .before .before .public-polynomials .last .1 .1 .0 in
-    let long : length stored ≡ n = c .before .before .before .before .before .before .before .before .before .before .before .before .before .before .before .before .before .before .before .public-polynomials .kept .1 .1 .0 ∙ simp length-take (omega (arith, is, pre .public-long)) in
-    let public = public-made p (now (a .mu)) (now (a .gamma)) (now (a .pk)) _ long made (c .before .before .before .before .before .before .before .before .before .before .before .before .before .before .before .before .before .before .before .public-polynomials .ensures) (c .before .before .before .before .before .before .before .before .before .before .before .before .before .before .before .copy .ensures) in
-    let there : length (take (n + p .seed) (now (a .sk))) ≡ n + p .seed = simp length-take (omega (arith, is, pre .secret-long)) in (
+    let public = public-made p (now (a .mu)) (now (a .gamma)) (now (a .pk)) _ (stored-size (c .before .before .before .before .before .before .before .before .before .before .before .before .before .before .before .before .before .before .before)) (streams (c .before .before .before .before .before .before .before .before .before .before .before .before .before .before .before .before .before .before .before .before .before .before .before .before)) (c .before .before .before .before .before .before .before .before .before .before .before .before .before .before .before .before .before .before .before .public-polynomials .ensures) (c .before .before .before .before .before .before .before .before .before .before .before .before .before .before .before .copy .ensures) in (
       public,
-      secret-made p (now (a .mu)) (now (a .gamma)) (now (a .z)) (now (a .sk)) (n + p .seed) (p .seed) (c .before .before .before .before .before .before .before .before .before .before .copy2 .kept .0 ∙ there)
-          (ap length (c .before .before .before .before .before .before .copy3 .ensures) ∙ pre .γ-long) (omega (arith, is, pre .secret-long))
-          (c .before .before .before .before .before .before .before .before .before .before .copy2 .ensures ∙ public) (c .before .before .before .before .before .before .copy3 .ensures) (c .before .before .copy4 .ensures),
+      secret-made p (now (a .mu)) (now (a .gamma)) (now (a .z)) (now (a .sk)) (c .before .before .before .before .before .before .before .before .before .before .before .before .before .before .before .before .before .before .before .before .before .before .before .before .before .before .before .before .before .before .before .before .stored .result + p .seed) (p .seed) (c .before .before .before .before .before .before .before .before .before .before .copy2 .kept .0 ∙ secret-part (c .before .before .before .before .before .before .before .before .before .before .before .before .before .before .before .before .before .before .before .before .before .before .before .before .before .before .before .before .before .before .before .before))
+          (ap length (c .before .before .before .before .before .before .copy3 .ensures) ∙ c .before .before .before .before .before .before .before .before .before .before .before .before .before .before .before .before .before .before .before .before .before .before .before .before .before .before .before .before .before .before .before .before .before .before .before .before .before .before .before .before .before .pre .γ-long) (secret-fits (c .before .before .before .before .before .before .before .before .before .before .before .before .before .before .before .before .before .before .before .before .before .before .before .before .before .before .before .before .before .before .before .before)) (c .before .before .before .before .before .before .before .before .before .before .copy2 .ensures ∙ public) (c .before .before .before .before .before .before .copy3 .ensures) (c .before .before .copy4 .ensures),
     )
 
 pub keygen-spec : {M : Type 1} → statement M

@@ -1,7 +1,7 @@
 -- `pke::keygen::public_parts` meets its contract: after i turns the first i stored polynomials are there.
 -- Assumes nothing.
 use Rattle.bits.proofs.Filling.{turn-less}
-use Rattle.pke.proofs.Made.{row-inside, errors-inside, part-inside, length-more, rest-long, same-long, joined-none, storedPart, length-parts, part-made}
+use Rattle.pke.proofs.Made.{row-inside, errors-inside, part-inside, length-more, storedPart, length-parts, part-made}
 use native.Mathlib.Numerals.{add-one}
 use native.Mathlib.Nat.{zero-mul, add-zero, suc-mul}
 use mathlib.Core.Path.{_≡_, refl, sym, ap, ap₂, _∙_}
@@ -15,7 +15,7 @@ use Rattle.bits.specs.Bits.{Below}
 use Rattle.kindi.specs.Params.{width, lengthOf, storedLength}
 use Rattle.kindi.specs.Keys.{joined}
 use Rattle.pke.proofs.Amounts.{length-none, length-bound, square, width-bound, reads, part-length}
-use Rattle.pke.proofs.Joining.{joined-turn, joined-end}
+use Rattle.pke.proofs.Joining.{rest-long, same-long, joined-none, joined-turn, joined-end}
 use Rattle.pke.proofs.keygen.public_parts.Statement.{statement}
 use Rattle.pke.proofs.keygen.public_parts.Tie as tie
 

@@ -1,7 +1,8 @@
 -- `pke::keygen::public_polynomials` meets its contract.
 -- Assumes nothing.
 use Rattle.pke.proofs.Amounts.{length-le, width-bound, reads}
-use Rattle.pke.proofs.Made.{stored-made, rest-long, rest-is, secret-held}
+use Rattle.pke.proofs.Joining.{rest-long, rest-is}
+use Rattle.pke.proofs.Made.{stored-made, secret-held}
 use Rattle.kindi.specs.Params.{width, lengthOf, secretsLength}
 use lib.Seq.{take-at}
 use denote.Ref.{now}
