@@ -18,19 +18,25 @@ use crate::lengths;
 use crate::vectors;
 use kindi::Params;
 
+// Where the polynomial in row i, column j of the matrix begins.
+fn entry(p: Params, i: usize, j: usize) -> usize
+    requires { ⌜ (WellFormed p) × (i < p .l) × (j < p .l) ⌝ }
+    ensures { λ r. ⌜ r ≡ lengthOf p (i * p .l + j) (p .k) ⌝ }
+{
+    lengths::length_of(p, i * p.l + j, p.k)
+}
+
 // Column j of the matrix.
 fn column(p: Params, rows: &[u8], j: usize, f: &mut [u16])
     requires { ⌜ (WellFormed p) × (length (now rows) ≡ matrixLength p) × (j < p .l) × (length (now f) ≡ p .l * p .n) ⌝ }
     ensures { λ _. ⌜ now (f .exit) ≡ vector (p .l) (p .n) (transposed (matrixIn p (now (rows .entry))) j) ⌝ }
 {
     let n = p.n;
-    let row = lengths::length_of(p, p.l, p.k);
-    let mut from = lengths::length_of(p, j, p.k);
     let mut at = 0;
     let mut i = 0;
     while i < p.l {
+        let from = entry(p, i, j);
         bits::unpack(p.k, &rows[from..], &mut f[at..at + n]);
-        from += row;
         at += n;
         i += 1;
     }

@@ -1,4 +1,5 @@
-// Products of Toeplitz matrices with vectors, from three of half the length: of the middle one with both halves of the vector added, and of what the others differ from it by with one half each.
+// Products of Toeplitz matrices with vectors, from three of half the length: of the middle matrix with the sum of the
+// vector's halves, and of what the upper and the lower one have more than it with one half each.
 ghost use mathlib.Core.Path.{_≡_};
 ghost use Prim.Native.Nat.{_+_, _*_, _≤_};
 ghost use lib.ListN.{length, replicate};
@@ -58,6 +59,7 @@ fn row_difference(row: &[u16], a: usize, b: usize, dst: &mut [u16])
     }
 }
 
+// Adds the product of a matrix of 128 rows with v.
 pub fn toeplitz_128(acc: &mut [u16], row: &[u16], v: &[u16])
     requires { ⌜ Matrix 128 (now acc) (now row) (now v) ⌝ }
     ensures { λ _. ⌜ now (acc .exit) ≡ withToeplitz (now (acc .entry)) (now (row .entry)) (now (v .entry)) ⌝ }
@@ -75,6 +77,7 @@ pub fn toeplitz_128(acc: &mut [u16], row: &[u16], v: &[u16])
     add(&mut acc[64..], &middle);
 }
 
+// Adds the product of a matrix of 256 rows with v.
 pub fn toeplitz_256(acc: &mut [u16], row: &[u16], v: &[u16])
     requires { ⌜ Matrix 256 (now acc) (now row) (now v) ⌝ }
     ensures { λ _. ⌜ now (acc .exit) ≡ withToeplitz (now (acc .entry)) (now (row .entry)) (now (v .entry)) ⌝ }
@@ -92,6 +95,7 @@ pub fn toeplitz_256(acc: &mut [u16], row: &[u16], v: &[u16])
     add(&mut acc[128..], &middle);
 }
 
+// Adds the product of a matrix of 512 rows with v.
 pub fn toeplitz_512(acc: &mut [u16], row: &[u16], v: &[u16])
     requires { ⌜ Matrix 512 (now acc) (now row) (now v) ⌝ }
     ensures { λ _. ⌜ now (acc .exit) ≡ withToeplitz (now (acc .entry)) (now (row .entry)) (now (v .entry)) ⌝ }
