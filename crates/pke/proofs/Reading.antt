@@ -21,7 +21,7 @@ use Rattle.kindi.specs.declared.Params.{Params}
 use Rattle.kindi.specs.Params.{WellFormed, lengthOf}
 use Rattle.kindi.specs.Streams.{coefficient}
 use Rattle.kindi.specs.Keys.{joined}
-use Rattle.kindi.proofs.Strings.{whole-bytes, joined-at, length-joined, place-below, coefficient-unpack, coefficient-below}
+use Rattle.kindi.proofs.Strings.{whole-bytes, joined-at, place-below, coefficient-unpack, coefficient-below}
 use Rattle.pke.specs.Vectors.{vector}
 
 -- The coefficients from polynomial a of a string on.
@@ -105,10 +105,6 @@ vector-cong m n f i x h l =
     cong-trans
     (cong-of-eq (ap pos (joined-at m n (λ j. residues 65536 n (f j)) i x (λ j _. length-residues 65536 n (f j)) h l ∙ residues-at 65536 n (f i) l)))
     (residue-cong (suc-le-suc zero-le) (f i x))
-
-pub length-vector : (m n : ℕ) (f : ℕ → Poly) → length (vector m n f) ≡ m * n
-unfolding vector
-length-vector m n f = length-joined m n (λ i. residues 65536 n (f i)) (λ i _. length-residues 65536 n (f i))
 
 -- Values less c are a polynomial.
 pub small-first : (n w c : ℕ) (bytes : List ℕ) → centredWords c (unpack w n bytes) ≡ residues 65536 n (λ x. centred c (coefficient w n bytes 0 x))
