@@ -117,6 +117,11 @@ pub record WellFormed (P : Params) : Type 0 where
   pub short : P .n ≤ 512
   pub few : P .l ≤ 8
   pub vector : P .l * P .n ≤ 1536
+  pub cipher-fits : ciphertextLength P ≤ 4096
+  pub padded-fits : paddedLength P ≤ 1024
+  -- what keeps the noise within 32 bits
+  pub small-secrets : P .p ≤ 64
+  pub few-dropped : P .t ≤ 6
   pub some-rate : 0 < P .rate
   pub rate-fits : P .rate ≤ 200
   pub seed-fits : P .seed ≤ 512
