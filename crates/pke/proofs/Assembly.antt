@@ -130,20 +130,18 @@ stream-below : (P : Params) (coins : List ℕ) → Below 256 (coinsStream P coin
 unfolding coinsStream
 stream-below P coins = shake-below (P .rate) coins (coinsStreamLength P)
 
--- The streams give the ciphertext.
-pub encrypt-is : (P : Params) → WellFormed P → (pk coins message : List ℕ)
-    → cipherFrom P pk coins (shake (P .rate) (matrixSeed P pk) (matrixLength P)
-    ++ patched (lowLength P) (paddedLength P) (masked P coins message) (coinsStream P coins))
-    ≡ ciphertext P pk coins message
-unfolding cipherFrom ciphertext noiseless error factor ephemeral matrix lowPart
-encrypt-is P W pk coins message =
+-- The streams with any string U in the mask's place give the ciphertext whose errors are U's small coefficients.
+pub streams-cipher : (P : Params) → WellFormed P → (pk coins U : List ℕ) → length U ≡ paddedLength P
+    → cipherFrom P pk coins (shake (P .rate) (matrixSeed P pk) (matrixLength P) ++ patched (lowLength P) (paddedLength P) U (coinsStream P coins))
+    ≡ pack (P .k) (joined (P .l + 1) (λ j. residues (modulus P) (P .n) (plus (noiseless P pk coins j) (smallIn P U j))))
+unfolding cipherFrom noiseless factor ephemeral matrix lowPart
+streams-cipher P W pk coins U lu =
     let M : ℕ = matrixLength P in
     let L : ℕ = lowLength P in
     let K : ℕ = paddedLength P in
     let H : ℕ = highLength P in
     let A : List ℕ = shake (P .rate) (matrixSeed P pk) M in
     let S : List ℕ = coinsStream P coins in
-    let U : List ℕ = masked P coins message in
     let Z : List ℕ = patched L K U S in
     let R : List ℕ = drop K (drop L S) in
     let E : ℕ → Poly = ephemeralBy P coins (drop (L + K) S) (drop (L + (K + H)) S) in
@@ -152,10 +150,10 @@ encrypt-is P W pk coins message =
     let lw : length (take L S) ≡ L = simp length-take (omega arith) in
     let tail : drop L Z ≡ U ++ R = drop-at (take L S) (U ++ R) L lw in
     let mid : take K (drop (M + L) (A ++ Z)) ≡ U
-    = ap (take K) (drop-past M L A Z la ∙ tail) ∙ take-at U R K (length-masked P coins message) in
+    = ap (take K) (drop-past M L A Z la ∙ tail) ∙ take-at U R K lu in
     let high : drop (M + L + K) (A ++ Z) ≡ drop (L + K) S
     = ap (λ (i : ℕ). drop i (A ++ Z)) (add-assoc M L K) ∙ drop-past M (L + K) A Z la ∙ sym (drop-drop K L Z) ∙ ap (drop K) tail
-    ∙ drop-at U R K (length-masked P coins message) ∙ drop-drop K L S in
+    ∙ drop-at U R K lu ∙ drop-drop K L S in
     let rest : drop (M + L + K + H) (A ++ Z) ≡ drop (L + (K + H)) S
     = sym (drop-drop H (M + L + K) (A ++ Z)) ∙ ap (drop H) high ∙ drop-drop H (L + K) S ∙ ap (λ (i : ℕ). drop i S) (add-assoc L K H) in
     let same : (i x : ℕ) → i < P .l → x < P .n → lowIn P Z i x ≡ lowIn P S i x
@@ -165,3 +163,11 @@ encrypt-is P W pk coins message =
     ap (λ (v : ℤ). v +ℤ smallIn P U j x)
     (dot-ext (P .l) (P .n) (factorBy P pk (matrixIn P A) (lowIn P Z) j) (factorBy P pk (matrixIn P A) (lowIn P S) j) E E
     (λ i y p q. factor-ext P pk (matrixIn P A) (lowIn P Z) (lowIn P S) j i y (ltb j (P .l)) (same i y p q)) (λ i y _ _. refl) h))))
+
+-- The streams give the ciphertext.
+pub encrypt-is : (P : Params) → WellFormed P → (pk coins message : List ℕ)
+    → cipherFrom P pk coins (shake (P .rate) (matrixSeed P pk) (matrixLength P)
+    ++ patched (lowLength P) (paddedLength P) (masked P coins message) (coinsStream P coins))
+    ≡ ciphertext P pk coins message
+unfolding ciphertext error
+encrypt-is P W pk coins message = streams-cipher P W pk coins (masked P coins message) (length-masked P coins message)

@@ -159,7 +159,7 @@ fn ephemeral(p: Params, coins: &[u8], high: &[u8], rest: &[u8], s: &mut [u16])
 }
 
 // The ciphertext, from the matrix and the masked stream of the coins.
-fn assemble(p: Params, pk: &[u8], coins: &[u8], streams: &[u8], dst: &mut [u8])
+pub fn assemble(p: Params, pk: &[u8], coins: &[u8], streams: &[u8], dst: &mut [u8])
     requires { ⌜ AssembleRoom p (now pk) (now coins) (now streams) (now dst) ⌝ }
     ensures { λ _. ⌜ now (dst .exit) ≡ cipherFrom p (now (pk .entry)) (now (coins .entry)) (now (streams .entry)) ⌝ }
 {
@@ -193,7 +193,7 @@ fn assemble(p: Params, pk: &[u8], coins: &[u8], streams: &[u8], dst: &mut [u8])
 }
 
 // Adds the padded message to the mask, modulo 2.
-fn add_padded(message: &[u8], dst: &mut [u8])
+pub fn add_padded(message: &[u8], dst: &mut [u8])
     requires { ⌜ length (now message) < length (now dst) ⌝ }
     ensures { λ _. ⌜ now (dst .exit) ≡ xorInto (now (dst .entry)) (now (message .entry) ++ (1 ∷ [])) ⌝ }
 {

@@ -2,4 +2,4 @@
 pub mod encrypt;
 pub mod keygen;
 pub mod lengths;
-mod vectors;
+pub mod vectors;

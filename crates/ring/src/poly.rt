@@ -41,7 +41,7 @@ pub fn difference(a: u16, b: u16) -> u16
     ((a as u32 + (65536 - b as u32)) % 65536) as u16
 }
 
-fn negate(src: &[u16], dst: &mut [u16])
+pub fn negate(src: &[u16], dst: &mut [u16])
     requires { ⌜ length (now dst) ≡ length (now src) ⌝ }
     ensures { λ _. ⌜ now (dst .exit) ≡ residues 65536 (length (now (src .entry))) (λ k. negℤ (ofNats (now (src .entry)) k)) ⌝ }
 {
