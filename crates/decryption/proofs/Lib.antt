@@ -1,0 +1,4 @@
+-- The laws that the proofs of `decryption` share.
+pub mod Value
+pub mod Left
+pub mod Masked

@@ -1,0 +1,3 @@
+-- What the contracts of `decryption` say.
+pub mod Opened
+pub mod Inputs

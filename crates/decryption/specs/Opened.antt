@@ -1,0 +1,58 @@
+-- What decryption finds before its outcome: V, the remainders, the padded message. Rests on the definitions of `kindi`.
+use mathlib.Core.Path.{_≡_}
+use mathlib.Core.Bool.{Bool}
+use mathlib.Core.List.{List}
+use Prim.Native.Nat.{ℕ, _+_, _≤_}
+use lib.IntN.{pos, _+ℤ_, _-ℤ_}
+use lib.ListN.{length, take, drop}
+use Rattle.hash.specs.Lists.{tabulate}
+use Rattle.hash.specs.Shake.{xorInto}
+use Rattle.bits.specs.Bits.{pack, lowBits}
+use Rattle.ring.specs.Integers.{residue}
+use Rattle.ring.specs.Poly.{Poly, plus, minus, dot, residues}
+use Rattle.kindi.specs.declared.Params.{Params}
+use Rattle.kindi.specs.Params.{WellFormed, modulus, width, secretLength, ciphertextLength, paddedLength, matrixLength, lowLength, decryptWork}
+use Rattle.kindi.specs.Streams.{coefficient, smallIn, mask}
+use Rattle.kindi.specs.Keys.{joined, publicPart, secretSeed}
+use Rattle.kindi.specs.Encrypt.{noiseless}
+use Rattle.kindi.specs.Decrypt.{cipherPart, roundedBit, roundedCoins, remainders, errorsFit}
+
+-- V = D − sum of C_j·r_j, for any r.
+abbrev pub valueBy : Params → List ℕ → (ℕ → Poly) → Poly
+valueBy P ct r = minus (cipherPart P ct (P .l)) (dot (P .l) (P .n) (cipherPart P ct) r)
+
+-- The coins that V rounds to, where the secret vector is read off a string.
+unfoldable pub coinsFrom : Params → List ℕ → List ℕ → List ℕ
+coinsFrom P bytes ct =
+    pack 1 (tabulate (P .n) (λ x. roundedBit (modulus P) (residue (modulus P) (valueBy P ct (smallIn P bytes) x))))
+
+-- The ciphertext whose errors are the small coefficients of the mask itself.
+unfoldable pub maskCipher : Params → List ℕ → List ℕ → List ℕ
+maskCipher P pk coins =
+    pack (P .k) (joined (P .l + 1) (λ j. residues (modulus P) (P .n) (plus (noiseless P pk coins j) (smallIn P (mask P coins) j))))
+
+-- Polynomial j of a ciphertext less that of another one plus that of a mask.
+abbrev pub leftPoly : Params → List ℕ → List ℕ → List ℕ → ℕ → Poly
+leftPoly P ct made m j x = (cipherPart P ct j x -ℤ cipherPart P made j x) +ℤ pos (coefficient (width P) (P .n) m j x)
+
+-- Its coefficients modulo q. Where the other one is `maskCipher` they are what remains of the ciphertext.
+unfoldable pub leftOver : Params → List ℕ → List ℕ → List ℕ → ℕ → List ℕ
+leftOver P ct made m j = residues (modulus P) (P .n) (leftPoly P ct made m j)
+
+-- The padded message that the remainders have, from the low bits of each.
+unfoldable pub opened : Params → List ℕ → List ℕ → List ℕ → List ℕ
+opened P pk coins ct = xorInto (mask P coins) (pack (width P) (lowBits (width P) (remainders P pk coins ct)))
+
+-- The arguments of `open`.
+pub record OpenRoom (P : Params) (sk ct coins work : List ℕ) : Type 0 where
+  pub well : WellFormed P
+  pub secret-long : length sk ≡ secretLength P
+  pub cipher-long : length ct ≡ ciphertextLength P
+  pub coins-long : length coins ≡ P .coins
+  pub work-long : decryptWork P ≤ length work
+
+-- What it leaves: the recovered coins, whether every error fits, and the padded message in the mask's place.
+pub record OpenExit (P : Params) (sk ct : List ℕ) (fits : Bool) (coins work : List ℕ) : Type 0 where
+  pub coins-are : coins ≡ roundedCoins P (secretSeed P sk) ct
+  pub fits-is : fits ≡ errorsFit (P .p) (remainders P (publicPart P sk) coins ct)
+  pub padded-is : take (paddedLength P) (drop (matrixLength P + lowLength P) work) ≡ opened P (publicPart P sk) coins ct
