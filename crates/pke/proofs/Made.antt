@@ -1,4 +1,5 @@
--- Laws of the stored polynomials of a key: compressed values, one polynomial after another, and both keys. Assumes nothing.
+-- Laws of the polynomials of a key without their low t bits: compressed values, one polynomial after another, and both keys,
+-- where t bits are dropped. Assumes nothing.
 use mathlib.Core.Path.{_≡_, refl, sym, ap, ap₂, _∙_}
 use mathlib.Core.List.{List, [], _∷_, _++_, map, append-assoc}
 use Prim.Native.Nat.{ℕ, zero, suc, _+_, _-_, _*_, _/_, _^_, _≤_, _<_}
@@ -19,7 +20,7 @@ use Rattle.bits.proofs.Digits.{lowBits-below}
 use Rattle.ring.proofs.Modular.{cong-trans, cong-of-eq}
 use Rattle.ring.proofs.Residues.{residues-ext, residues-below, length-residues}
 use Rattle.kindi.specs.declared.Params.{Params}
-use Rattle.kindi.specs.Params.{WellFormed, modulus, width, lengthOf, matrixLength, secretsLength, storedLength, keygenWork}
+use Rattle.kindi.specs.Params.{WellFormed, modulus, width, lengthOf, matrixLength, secretsLength, keygenWork}
 use Rattle.kindi.specs.Streams.{coefficient, matrixIn, smallIn, matrix, keySecret}
 use Rattle.kindi.specs.Keys.{compress, joined, publicBy, public, publicKey, secretKey}
 use Rattle.kindi.proofs.Strings.{length-joined, length-pack, whole-bytes}
@@ -57,27 +58,27 @@ packed-sum k t h xs es el eh eb =
 -- ---- one stored polynomial
 
 -- Polynomial i of b modulo q, compressed.
-abbrev pub compressedPart : Params → (ℕ → ℕ → Poly) → (ℕ → Poly) → ℕ → List ℕ
-compressedPart P A r i = map (compress (P .t)) (residues (modulus P) (P .n) (publicBy P A r i))
+abbrev pub compressedPart : Params → ℕ → (ℕ → ℕ → Poly) → (ℕ → Poly) → ℕ → List ℕ
+compressedPart P t A r i = map (compress t) (residues (modulus P) (P .n) (publicBy P A r i))
 
 -- The same from the streams, in k − t bits.
-abbrev pub storedPart : Params → List ℕ → List ℕ → ℕ → List ℕ
-storedPart P rows secrets i = pack (P .k - P .t) (compressedPart P (matrixIn P rows) (smallIn P secrets) i)
+abbrev pub storedPart : Params → ℕ → List ℕ → List ℕ → ℕ → List ℕ
+storedPart P t rows secrets i = pack (P .k - t) (compressedPart P t (matrixIn P rows) (smallIn P secrets) i)
 
 -- It has n coefficients.
-length-compressed : (P : Params) (A : ℕ → ℕ → Poly) (r : ℕ → Poly) (i : ℕ) → length (compressedPart P A r i) ≡ P .n
-length-compressed P A r i =
-    length-map (residues (modulus P) (P .n) (publicBy P A r i)) (compress (P .t)) ∙ length-residues (modulus P) (P .n) (publicBy P A r i)
+length-compressed : (P : Params) (t : ℕ) (A : ℕ → ℕ → Poly) (r : ℕ → Poly) (i : ℕ) → length (compressedPart P t A r i) ≡ P .n
+length-compressed P t A r i =
+    length-map (residues (modulus P) (P .n) (publicBy P A r i)) (compress t) ∙ length-residues (modulus P) (P .n) (publicBy P A r i)
 
 -- The first i stored polynomials, in bytes.
-pub length-parts : (P : Params) → WellFormed P → (rows secrets : List ℕ) (i : ℕ)
-    → length (joined i (storedPart P rows secrets)) ≡ lengthOf P i (P .k - P .t)
+pub length-parts : (P : Params) → WellFormed P → (t : ℕ) (rows secrets : List ℕ) (i : ℕ)
+    → length (joined i (storedPart P t rows secrets)) ≡ lengthOf P i (P .k - t)
 unfolding lengthOf
-length-parts P W rows secrets i =
-    let w : ℕ = P .k - P .t in
-    let each : (j : ℕ) → length (storedPart P rows secrets j) ≡ lengthOf P 1 w
-    = λ j. length-pack w (compressedPart P (matrixIn P rows) (smallIn P secrets) j) ∙ sym (fills P W w (length-compressed P (matrixIn P rows) (smallIn P secrets) j) refl) in
-    length-joined i (lengthOf P 1 w) (storedPart P rows secrets) (λ j _. each j) ∙ ap (λ (m : ℕ). i * m) (one-mul (P .n / 8 * w))
+length-parts P W t rows secrets i =
+    let w : ℕ = P .k - t in
+    let each : (j : ℕ) → length (storedPart P t rows secrets j) ≡ lengthOf P 1 w
+    = λ j. length-pack w (compressedPart P t (matrixIn P rows) (smallIn P secrets) j) ∙ sym (fills P W w (length-compressed P t (matrixIn P rows) (smallIn P secrets) j) refl) in
+    length-joined i (lengthOf P 1 w) (storedPart P t rows secrets) (λ j _. each j) ∙ ap (λ (m : ℕ). i * m) (one-mul (P .n / 8 * w))
 
 -- a polynomials and then b lie within m.
 inside : (P : Params) (w a b : ℕ) {m : ℕ} → a + b ≤ m → lengthOf P a w + lengthOf P b w ≤ lengthOf P m w
@@ -90,27 +91,27 @@ row-inside P {i} h = inside P (P .k) (i * P .l) (P .l) (omega (arith, mul-le-mul
 pub errors-inside : (P : Params) {i : ℕ} → i < P .l → lengthOf P (P .l + i) (width P) + lengthOf P 1 (width P) ≤ secretsLength P
 errors-inside P {i} h = inside P (width P) (P .l + i) 1 (omega arith)
 
-pub part-inside : (P : Params) {i : ℕ} → i < P .l → lengthOf P i (P .k - P .t) + lengthOf P 1 (P .k - P .t) ≤ storedLength P
-part-inside P {i} h = inside P (P .k - P .t) i 1 (omega arith)
+pub part-inside : (P : Params) (w : ℕ) {i : ℕ} → i < P .l → lengthOf P i w + lengthOf P 1 w ≤ lengthOf P (P .l) w
+part-inside P w {i} h = inside P w i 1 (omega arith)
 
 -- The place after a polynomials and then b.
 pub length-more : (P : Params) (w a b : ℕ) {m x y : ℕ} → a + b ≡ m → x ≡ lengthOf P a w → y ≡ lengthOf P b w → x + y ≡ lengthOf P m w
 length-more P w a b e ex ey = ap₂ _+_ ex ey ∙ sym (length-add P a b w) ∙ ap (λ (z : ℕ). lengthOf P z w) e
 
 -- What public_part leaves is stored polynomial i, where the vectors hold row i and r.
-pub part-made : (P : Params) → WellFormed P → (rows secrets : List ℕ) → Below 256 rows → Below 256 secrets → (i a b : ℕ) {N : ℕ} {f r ys : List ℕ}
+pub part-made : (P : Params) → WellFormed P → (t : ℕ) (rows secrets : List ℕ) → Below 256 rows → Below 256 secrets → (i a b : ℕ) {N : ℕ} {f r ys : List ℕ}
     → a ≡ lengthOf P (i * P .l) (P .k) → b ≡ lengthOf P (P .l + i) (width P) → N ≡ P .l * P .n
     → f ≡ unpack (P .k) N (take (length rows - a) (drop a rows)) → r ≡ vector (P .l) (P .n) (smallIn P secrets)
-    → ys ≡ pack (P .k - P .t) (map (compress (P .t)) (lowBits (P .k) (sumPart P (take (length secrets - b) (drop b secrets)) f r)))
-    → ys ≡ storedPart P rows secrets i
-part-made P W rows secrets bytes bytes' i a b {N} {f} {r} ea eb eN ef er ey =
+    → ys ≡ pack (P .k - t) (map (compress t) (lowBits (P .k) (sumPart P (take (length secrets - b) (drop b secrets)) f r)))
+    → ys ≡ storedPart P t rows secrets i
+part-made P W t rows secrets bytes bytes' i a b {N} {f} {r} ea eb eN ef er ey =
     let errors : List ℕ = drop (lengthOf P (P .l + i) (width P)) secrets in
     let same : take (length secrets - b) (drop b secrets) ≡ errors = take-rest b secrets ∙ ap (λ (m : ℕ). drop m secrets) eb in
     let row : f ≡ unpack (P .k) (P .l * P .n) (drop (lengthOf P (i * P .l) (P .k)) rows)
     = ef ∙ ap₂ (unpack (P .k)) eN (take-rest a rows ∙ ap (λ (m : ℕ). drop m rows) ea) in
     let held : (xs : List ℕ) (F : ℕ → Poly) → xs ≡ vector (P .l) (P .n) F → (j x : ℕ) → j < P .l → x < P .n → Cong 65536 (parts (P .n) xs j x) (F j x)
     = λ xs F e j x h l. cong-trans (cong-of-eq (ap (λ (ys : List ℕ). parts (P .n) ys j x) e)) (vector-cong (P .l) (P .n) F j x h l) in
-    ey ∙ ap (λ (xs : List ℕ). pack (P .k - P .t) (map (compress (P .t)) xs))
+    ey ∙ ap (λ (xs : List ℕ). pack (P .k - t) (map (compress t) xs))
     (ap (λ (l : List ℕ). lowBits (P .k) (sumPart P l f r)) same
     ∙ sum-low P W errors f r (matrixIn P rows i) (smallIn P secrets)
     (held f (matrixIn P rows i) (row ∙ plain-vector P W (P .l) (P .k) (i * P .l) rows (W .word) bytes)) (held r (smallIn P secrets) er)
@@ -127,26 +128,26 @@ secret-held P secrets ew en e =
 -- ---- all of them
 
 -- The stored polynomials may be packed one by one.
-stored-joined : (P : Params) → WellFormed P → (streams : List ℕ)
-    → joined (P .l) (storedPart P (take (matrixLength P) streams) (drop (matrixLength P) streams)) ≡ storedFrom P streams
+stored-joined : (P : Params) → WellFormed P → (t : ℕ) → t ≤ P .k → (streams : List ℕ)
+    → joined (P .l) (storedPart P t (take (matrixLength P) streams) (drop (matrixLength P) streams)) ≡ storedFrom P t streams
 unfolding storedFrom
-stored-joined P W streams =
+stored-joined P W t h streams =
     let A : ℕ → ℕ → Poly = matrixIn P (take (matrixLength P) streams) in
     let r : ℕ → Poly = smallIn P (drop (matrixLength P) streams) in
-    let w : ℕ = P .k - P .t in
-    sym (pack-joined w (P .n) (lengthOf P 1 w) (P .l) (compressedPart P A r)
+    let w : ℕ = P .k - t in
+    sym (pack-joined w (P .n) (lengthOf P 1 w) (P .l) (compressedPart P t A r)
     (ap (λ (n : ℕ). w * n) (sym (one-mul (P .n))) ∙ whole-bytes P W 1 w)
-    (λ j _. length-compressed P A r j)
-    (λ j _. compressed-below (P .k) (P .t) (residues (modulus P) (P .n) (publicBy P A r j)) (omega (arith, W .kept)) (residues-below (pow-pos (P .k)) (P .n) (publicBy P A r j))))
+    (λ j _. length-compressed P t A r j)
+    (λ j _. compressed-below (P .k) t (residues (modulus P) (P .n) (publicBy P A r j)) h (residues-below (pow-pos (P .k)) (P .n) (publicBy P A r j))))
 
 -- So they are where the streams lie one after the other.
-pub stored-made : (P : Params) → WellFormed P → (streams : List ℕ) (m : ℕ) {ys : List ℕ} → m ≡ matrixLength P
-    → ys ≡ joined (P .l) (storedPart P (take m streams) (take (length streams - m) (drop m streams))) → ys ≡ storedFrom P streams
-stored-made P W streams m e ey =
+pub stored-made : (P : Params) → WellFormed P → (t : ℕ) → t ≤ P .k → (streams : List ℕ) (m : ℕ) {ys : List ℕ} → m ≡ matrixLength P
+    → ys ≡ joined (P .l) (storedPart P t (take m streams) (take (length streams - m) (drop m streams))) → ys ≡ storedFrom P t streams
+stored-made P W t h streams m e ey =
     ey
-    ∙ ap₂ (λ (rows secrets : List ℕ). joined (P .l) (storedPart P rows secrets)) (ap (λ (a : ℕ). take a streams) e)
+    ∙ ap₂ (λ (rows secrets : List ℕ). joined (P .l) (storedPart P t rows secrets)) (ap (λ (a : ℕ). take a streams) e)
     (take-rest m streams ∙ ap (λ (a : ℕ). drop a streams) e)
-    ∙ stored-joined P W streams
+    ∙ stored-joined P W t h streams
 
 -- ---- keys
 
@@ -174,20 +175,26 @@ streams-made P work μ γ {m} {s} {first} {second} em es room e1 e2 =
     then-next m s work first second first-long second-long room
     ∙ ap₂ _++_ (e1 ∙ ap (shake (P .rate) μ) (long1 ∙ em)) (e2 ∙ ap (shake (P .rate) γ) (long2 ∙ es))
 
--- With μ after them, the stored polynomials of these streams are the public key.
-key-made : (P : Params) (μ γ streams : List ℕ) → streams ≡ keyStreams P μ γ → storedFrom P streams ++ μ ≡ publicKey P μ γ
-unfolding storedFrom publicKey public matrix keySecret
-key-made P μ γ streams e =
+-- The polynomials of these streams are those of b.
+pub stored-of : (P : Params) (t : ℕ) (μ γ streams : List ℕ) → streams ≡ keyStreams P μ γ
+    → storedFrom P t streams ≡ pack (P .k - t) (joined (P .l) (λ i. map (compress t) (residues (modulus P) (P .n) (public P μ γ i))))
+unfolding storedFrom public matrix keySecret
+stored-of P t μ γ streams e =
     let rows : List ℕ = shake (P .rate) μ (matrixLength P) in
     let secrets : List ℕ = shake (P .rate) γ (secretsLength P) in
     let long : length rows ≡ matrixLength P = length-shake (P .rate) μ (matrixLength P) in
     let first : take (matrixLength P) streams ≡ rows = ap (take (matrixLength P)) e ∙ take-at rows secrets (matrixLength P) long in
     let second : drop (matrixLength P) streams ≡ secrets = ap (drop (matrixLength P)) e ∙ drop-at rows secrets (matrixLength P) long in
-    ap₂ (λ (a b : List ℕ). pack (P .k - P .t) (joined (P .l) (compressedPart P (matrixIn P a) (smallIn P b))) ++ μ) first second
+    ap₂ (λ (a b : List ℕ). pack (P .k - t) (joined (P .l) (compressedPart P t (matrixIn P a) (smallIn P b)))) first second
+
+-- With μ after them, where t bits are dropped they are the public key.
+key-made : (P : Params) (μ γ streams : List ℕ) → streams ≡ keyStreams P μ γ → storedFrom P (P .t) streams ++ μ ≡ publicKey P μ γ
+unfolding publicKey
+key-made P μ γ streams e = ap (λ (l : List ℕ). l ++ μ) (stored-of P (P .t) μ γ streams e)
 
 -- Both keys, written part by part.
 pub public-made : (P : Params) (μ γ pk streams : List ℕ) {n : ℕ} {stored seed : List ℕ} → length stored ≡ n → streams ≡ keyStreams P μ γ
-    → stored ≡ storedFrom P streams → seed ≡ μ → patched n (length (stored ++ drop n pk) - n) seed (stored ++ drop n pk) ≡ publicKey P μ γ
+    → stored ≡ storedFrom P (P .t) streams → seed ≡ μ → patched n (length (stored ++ drop n pk) - n) seed (stored ++ drop n pk) ≡ publicKey P μ γ
 public-made P μ γ pk streams {n} {stored} {seed} long e es eμ = then-rest n pk stored seed long ∙ ap₂ _++_ es eμ ∙ key-made P μ γ streams e
 
 pub secret-made : (P : Params) (μ γ z sk : List ℕ) (a k : ℕ) {pk g y : List ℕ} → length pk ≡ a → length g ≡ k → a + k ≤ length sk

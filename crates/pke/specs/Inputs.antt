@@ -14,15 +14,16 @@ pub record Rows (P : Params) (errors f s acc : List ℕ) : Type 0 where
   pub second : length s ≡ P .l * P .n
   pub sum : length acc ≡ P .n
 
--- The streams of a key, its secret vector r, room for a vector and a sum, and the stored polynomials.
-pub record PublicRoom (P : Params) (rows secrets r f acc dst : List ℕ) : Type 0 where
+-- The streams of a key, its secret vector r, room for a vector and a sum, and the polynomials of b without their low t bits.
+pub record PublicRoom (P : Params) (t : ℕ) (rows secrets r f acc dst : List ℕ) : Type 0 where
   pub well : WellFormed P
   pub rows-long : length rows ≡ matrixLength P
   pub secrets-long : length secrets ≡ secretsLength P
   pub secret-long : length r ≡ P .l * P .n
   pub vector-long : length f ≡ P .l * P .n
   pub sum : length acc ≡ P .n
-  pub stored-long : length dst ≡ storedLength P
+  pub some-kept : t < P .k
+  pub stored-long : length dst ≡ lengthOf P (P .l) (P .k - t)
 
 -- The arguments of keygen.
 pub record KeygenRoom (P : Params) (μ γ z pk sk work : List ℕ) : Type 0 where

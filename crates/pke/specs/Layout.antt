@@ -10,12 +10,12 @@ use Rattle.kindi.specs.Streams.{matrixIn, smallIn, lowIn, ephemeralBy}
 use Rattle.kindi.specs.Keys.{joined, compress, publicBy}
 use Rattle.kindi.specs.Encrypt.{factorBy}
 
--- The stored polynomials of a key whose streams are these: the matrix, then the stream of γ.
-unfoldable pub storedFrom : Params → List ℕ → List ℕ
-storedFrom P streams =
+-- b without its low t bits, in k − t bits, of a key whose streams are these: the matrix, then the stream of γ.
+unfoldable pub storedFrom : Params → ℕ → List ℕ → List ℕ
+storedFrom P t streams =
     let r = smallIn P (drop (matrixLength P) streams) in
     let A = matrixIn P (take (matrixLength P) streams) in
-    pack (P .k - P .t) (joined (P .l) (λ i. map (compress (P .t)) (residues (modulus P) (P .n) (publicBy P A r i))))
+    pack (P .k - t) (joined (P .l) (λ i. map (compress t) (residues (modulus P) (P .n) (publicBy P A r i))))
 
 -- The ciphertext whose streams are these: the matrix, then the stream of the coins with the masked message in the mask's place.
 unfoldable pub cipherFrom : Params → List ℕ → List ℕ → List ℕ → List ℕ

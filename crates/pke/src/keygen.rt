@@ -1,11 +1,11 @@
 // Keygen (01: key making).
 ghost use mathlib.Core.Path.{_≡_};
 ghost use mathlib.Core.List.{map};
-ghost use Prim.Native.Nat.{_-_, _*_};
+ghost use Prim.Native.Nat.{_-_, _*_, _<_};
 ghost use lib.ListN.{length};
 ghost use Rattle.bits.specs.Bits.{pack as Bits·pack, lowBits};
 ghost use Rattle.ring.specs.Poly.{residues};
-ghost use Rattle.kindi.specs.Params.{WellFormed, modulus, lengthOf, storedLength, keygenWork};
+ghost use Rattle.kindi.specs.Params.{WellFormed, modulus, lengthOf, keygenWork};
 ghost use Rattle.kindi.specs.Streams.{matrixIn, smallIn};
 ghost use Rattle.kindi.specs.Keys.{compress as Keys·compress, joined, publicBy, publicKey, secretKey};
 ghost use Rattle.pke.specs.Vectors.{vector, sumPart};
@@ -16,20 +16,29 @@ use crate::vectors;
 use kindi::Params;
 
 // The sum of f_i·r_i and errors, modulo q, without its low t bits, in k − t bits.
-fn public_part(p: Params, errors: &[u8], f: &[u16], r: &[u16], acc: &mut [u16], dst: &mut [u8])
-    requires { ⌜ (Rows p (now errors) (now f) (now r) (now acc)) × (length (now dst) ≡ lengthOf p 1 (p .k - p .t)) ⌝ }
-    ensures { λ _. ⌜ now (dst .exit) ≡ Bits·pack (p .k - p .t) (map (Keys·compress (p .t))
+fn public_part(
+    p: Params,
+    t: u32,
+    errors: &[u8],
+    f: &[u16],
+    r: &[u16],
+    acc: &mut [u16],
+    dst: &mut [u8],
+)
+    requires { ⌜ (Rows p (now errors) (now f) (now r) (now acc)) × (t < p .k) × (length (now dst) ≡ lengthOf p 1 (p .k - t)) ⌝ }
+    ensures { λ _. ⌜ now (dst .exit) ≡ Bits·pack (p .k - t) (map (Keys·compress t)
         (lowBits (p .k) (sumPart p (now (errors .entry)) (now (f .entry)) (now (r .entry))))) ⌝ }
 {
     vectors::sum_part(p, errors, f, r, acc);
     bits::reduce(acc, p.k);
-    vectors::compress(acc, p.t);
-    bits::pack(p.k - p.t, acc, dst);
+    vectors::compress(acc, t);
+    bits::pack(p.k - t, acc, dst);
 }
 
-// b, compressed, polynomial by polynomial.
+// b without its low t bits, polynomial by polynomial.
 fn public_parts(
     p: Params,
+    t: u32,
     rows: &[u8],
     secrets: &[u8],
     r: &[u16],
@@ -37,21 +46,29 @@ fn public_parts(
     acc: &mut [u16],
     dst: &mut [u8],
 )
-    requires { ⌜ (PublicRoom p (now rows) (now secrets) (now r) (now f) (now acc) (now dst))
+    requires { ⌜ (PublicRoom p t (now rows) (now secrets) (now r) (now f) (now acc) (now dst))
         × (now r ≡ vector (p .l) (p .n) (smallIn p (now secrets))) ⌝ }
-    ensures { λ _. ⌜ now (dst .exit) ≡ joined (p .l) (λ i. Bits·pack (p .k - p .t) (map (Keys·compress (p .t))
+    ensures { λ _. ⌜ now (dst .exit) ≡ joined (p .l) (λ i. Bits·pack (p .k - t) (map (Keys·compress t)
         (residues (modulus p) (p .n) (publicBy p (matrixIn p (now (rows .entry))) (smallIn p (now (secrets .entry))) i)))) ⌝ }
 {
     let row = lengths::length_of(p, p.l, p.k);
     let error = lengths::length_of(p, 1, lengths::width(p));
-    let part = lengths::length_of(p, 1, p.k - p.t);
+    let part = lengths::length_of(p, 1, p.k - t);
     let mut row_at = 0;
     let mut error_at = lengths::length_of(p, p.l, lengths::width(p));
     let mut at = 0;
     let mut i = 0;
     while i < p.l {
         bits::unpack(p.k, &rows[row_at..], f);
-        public_part(p, &secrets[error_at..], f, r, acc, &mut dst[at..at + part]);
+        public_part(
+            p,
+            t,
+            &secrets[error_at..],
+            f,
+            r,
+            acc,
+            &mut dst[at..at + part],
+        );
         row_at += row;
         error_at += error;
         at += part;
@@ -59,10 +76,10 @@ fn public_parts(
     }
 }
 
-// The stored polynomials, from the matrix and the stream of γ.
-fn public_polynomials(p: Params, streams: &[u8], dst: &mut [u8])
-    requires { ⌜ (WellFormed p) × (length (now streams) ≡ keygenWork p) × (length (now dst) ≡ storedLength p) ⌝ }
-    ensures { λ _. ⌜ now (dst .exit) ≡ storedFrom p (now (streams .entry)) ⌝ }
+// b without its low t bits, in k − t bits, from the matrix and the stream of γ: what a key stores, and at t = 0 b in full.
+pub fn public_polynomials(p: Params, t: u32, streams: &[u8], dst: &mut [u8])
+    requires { ⌜ (WellFormed p) × (t < p .k) × (length (now streams) ≡ keygenWork p) × (length (now dst) ≡ lengthOf p (p .l) (p .k - t)) ⌝ }
+    ensures { λ _. ⌜ now (dst .exit) ≡ storedFrom p t (now (streams .entry)) ⌝ }
 {
     let n = p.n;
     let vector = p.l * n;
@@ -73,6 +90,7 @@ fn public_polynomials(p: Params, streams: &[u8], dst: &mut [u8])
     vectors::small(lengths::width(p), &streams[matrix..], p.p, &mut r[..vector]);
     public_parts(
         p,
+        t,
         &streams[..matrix],
         &streams[matrix..],
         &r[..vector],
@@ -103,7 +121,7 @@ pub fn keygen(
     let end = public + p.seed;
     hash::shake(p.rate, mu, &mut work[..matrix]);
     hash::shake(p.rate, gamma, &mut work[matrix..need]);
-    public_polynomials(p, &work[..need], &mut pk[..stored]);
+    public_polynomials(p, p.t, &work[..need], &mut pk[..stored]);
     hash::strings::copy(&mut pk[stored..], mu);
     hash::strings::copy(&mut sk[..public], pk);
     hash::strings::copy(&mut sk[public..end], gamma);

@@ -87,8 +87,8 @@ secret-fits c = omega (arith, c .stored .ensures .0, c .before .before .before .
 secret-part : (c : tie.After-stored) → length (take (c .stored .result + c .before .before .before .before .before .before .before .before .before .args .p .seed) (now (c .before .before .before .before .before .before .before .before .before .args .sk))) ≡ c .stored .result + c .before .before .before .before .before .before .before .before .before .args .p .seed
 secret-part c = simp length-take (omega (arith, secret-fits c))
 
-stored-size : (c : tie.After-public-polynomials) → length (c .public-polynomials .last .1 .1 .0) ≡ c .before .before .before .before .before .before .before .before .before .before .before .before .before .stored .result
-stored-size c = c .public-polynomials .kept .1 .1 .0 ∙ public-part (c .before .before .before .before .before .before .before .before .before .before .before .before .before)
+stored-size : (c : tie.After-public-polynomials) → length (c .public-polynomials .last .1 .1 .1 .0) ≡ c .before .before .before .before .before .before .before .before .before .before .before .before .before .stored .result
+stored-size c = c .public-polynomials .kept .1 .1 .1 .0 ∙ public-part (c .before .before .before .before .before .before .before .before .before .before .before .before .before)
 
 -- The secret key once the public key is written, and once γ is.
 abbrev begun : tie.After-copy2 → List ℕ
@@ -117,7 +117,7 @@ slice-aggregate-public-polynomials-2 : tie.Need-slice-aggregate-public-polynomia
 slice-aggregate-public-polynomials-2 c = sym (public-part (c .before .before .before .before .before .before .before .before .before .before .before .before))
 
 public-polynomials-requires : tie.Need-public-polynomials-requires
-public-polynomials-requires c κs = (c .before .before .before .before .before .before .before .before .before .before .before .before .before .before .before .before .before .before .before .before .before .pre .well, streams-size (c .before .before .before .before), public-part (c .before .before .before .before .before .before .before .before .before .before .before .before) ∙ c .before .before .before .before .before .before .before .before .before .before .before .before .stored .ensures .0)
+public-polynomials-requires c κs = (c .before .before .before .before .before .before .before .before .before .before .before .before .before .before .before .before .before .before .before .before .before .pre .well, c .before .before .before .before .before .before .before .before .before .before .before .before .before .before .before .before .before .before .before .before .before .pre .well .kept, streams-size (c .before .before .before .before), public-part (c .before .before .before .before .before .before .before .before .before .before .before .before) ∙ c .before .before .before .before .before .before .before .before .before .before .before .before .stored .ensures .0)
 
 sub-copy : tie.Need-sub-copy
 sub-copy c = search needs
@@ -129,7 +129,13 @@ part-copy-end : tie.Need-part-copy-end
 part-copy-end c = search needs
 
 copy-requires : tie.Need-copy-requires
-copy-requires c κs = search needs
+copy-requires c κs =
+    let n : ℕ = c .before .before .before .before .before .before .before .before .before .before .before .before .before .before .before .before .stored .result in
+    let pre = c .before .before .before .before .before .before .before .before .before .before .before .before .before .before .before .before .before .before .before .before .before .before .before .before .before .pre in
+    let pk = now (c .before .before .before .before .before .before .before .before .before .before .before .before .before .before .before .before .before .before .before .before .before .before .before .before .before .args .pk) in
+    let stored : List ℕ = c .before .before .before .public-polynomials .last .1 .1 .1 .0 in
+    let same = first-same n stored pk (c .before .before .before .public-polynomials .kept .1 .1 .1 .0) in
+    rest-is n (c .before .before .before .before .before .before .before .before .before .before .before .before .before .before .before .before .before .before .before .before .before .before .before .before .before .args .p .seed) (stored ++ drop n pk) (omega (arith, same, c .before .before .before .before .before .before .before .before .before .before .before .before .before .before .before .before .stored .ensures .0, pre .public-long)) ∙ sym (pre .μ-long)
 
 slice-relend-prefix-copy : tie.Need-slice-relend-prefix-copy
 slice-relend-prefix-copy c = omega (arith, secret-fits (c .before .before .before .before .before .before .before .before .before .before .before .before .before .before .before .before .before .before .before))
@@ -141,7 +147,7 @@ copy-requires-2 : tie.Need-copy-requires-2
 copy-requires-2 c κs =
     let n : ℕ = c .before .before .before .before .before .before .before .before .before .before .before .before .before .before .before .before .before .before .before .before .before .stored .result in
     let pre = c .before .before .before .before .before .before .before .before .before .before .before .before .before .before .before .before .before .before .before .before .before .before .before .before .before .before .before .before .before .before .pre in
-    let stored : List ℕ = c .before .before .before .before .before .before .before .before .public-polynomials .last .1 .1 .0 in
+    let stored : List ℕ = c .before .before .before .before .before .before .before .before .public-polynomials .last .1 .1 .1 .0 in
     let seed : List ℕ = c .before .before .before .before .copy .last .0 in
     let long = stored-size (c .before .before .before .before .before .before .before .before) in
     let whole = ap length (then-rest n (now (c .before .before .before .before .before .before .before .before .before .before .before .before .before .before .before .before .before .before .before .before .before .before .before .before .before .before .before .before .before .before .args .pk)) stored seed long) ∙ length-append stored seed in
@@ -182,8 +188,8 @@ same-length c =
     let pre = c .before .before .before .before .before .before .before .before .before .before .before .before .before .before .before .before .before .before .before .before .before .before .before .before .before .before .before .before .before .before .before .before .before .before .before .before .before .before .before .before .before .pre in
     let n : ℕ = c .before .before .before .before .before .before .before .before .before .before .before .before .before .before .before .before .before .before .before .before .before .before .before .before .before .before .before .before .before .before .before .before .stored .result in
     let is = c .before .before .before .before .before .before .before .before .before .before .before .before .before .before .before .before .before .before .before .before .before .before .before .before .before .before .before .before .before .before .before .before .stored .ensures .0 in
-    let stored : List ℕ = c .before .before .before .before .before .before .before .before .before .before .before .before .before .before .before .before .before .before .before .public-polynomials .last .1 .1 .0 in
-    let first = first-same n stored (now (a .pk)) (c .before .before .before .before .before .before .before .before .before .before .before .before .before .before .before .before .before .before .before .public-polynomials .kept .1 .1 .0) in
+    let stored : List ℕ = c .before .before .before .before .before .before .before .before .before .before .before .before .before .before .before .before .before .before .before .public-polynomials .last .1 .1 .1 .0 in
+    let first = first-same n stored (now (a .pk)) (c .before .before .before .before .before .before .before .before .before .before .before .before .before .before .before .before .before .before .before .public-polynomials .kept .1 .1 .1 .0) in
     rest-same n (c .before .before .before .before .before .before .before .before .before .before .before .before .before .before .before .copy .last .0) (stored ++ drop n (now (a .pk))) (omega (arith, first, is, pre .public-long)) (c .before .before .before .before .before .before .before .before .before .before .before .before .before .before .before .copy .kept .0) ∙ first
 
 same-length-2 : tie.Need-same-length-2

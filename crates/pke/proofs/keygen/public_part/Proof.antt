@@ -30,7 +30,7 @@ pack-requires c κs =
     let p = c .before .before .before .before .before .before .before .before .before .before .before .before .before .before .before .before .before .before .before .before .args .p in
     let pre = c .before .before .before .before .before .before .before .before .before .before .before .before .before .before .before .before .before .before .before .before .pre in
     let long : length (now (c .before .before .before .before .before .before .before .before .before .before .before .before .before .before .before .before .before .before .before .before .args .acc)) ≡ p .n = pre .0 .sum in
-    (omega (arith, pre .0 .well .word), fills p (pre .0 .well) (p .k - p .t) (c .before .before .before .before .before .compress .kept .0 ∙ c .before .before .before .before .before .before .before .before .before .reduce .kept .0 ∙ c .before .before .before .before .before .before .before .before .before .before .before .before .before .sum-part .kept .1 .1 .1 .1 .0 ∙ long) (pre .1))
+    (omega (arith, pre .0 .well .word), fills p (pre .0 .well) (p .k - c .before .before .before .before .before .before .before .before .before .before .before .before .before .before .before .before .before .before .before .before .args .t) (c .before .before .before .before .before .compress .kept .0 ∙ c .before .before .before .before .before .before .before .before .before .reduce .kept .0 ∙ c .before .before .before .before .before .before .before .before .before .before .before .before .before .sum-part .kept .1 .1 .1 .1 .0 ∙ long) (pre .2))
 
 same-length : tie.Need-same-length
 same-length c = search needs
@@ -43,7 +43,7 @@ returns c =
     let a = c .before .before .before .before .before .before .before .before .before .before .before .before .before .before .before .before .before .before .before .before .before .before .before .args in
     let p = a .p in
     let sum : List ℕ = sumPart p (now (a .errors)) (now (a .f)) (now (a .r)) in
-    packed-sum (p .k) (p .t) (omega (arith, c .before .before .before .before .before .before .before .before .before .before .before .before .before .before .before .before .before .before .before .before .before .before .before .pre .0 .well .kept)) sum
+    packed-sum (p .k) (a .t) (omega (arith, c .before .before .before .before .before .before .before .before .before .before .before .before .before .before .before .before .before .before .before .before .before .before .before .pre .1)) sum
     (c .before .before .before .before .before .before .before .before .before .before .before .before .before .before .before .before .sum-part .ensures) (c .before .before .before .before .before .before .before .before .before .before .before .before .reduce .ensures) (c .before .before .before .before .before .before .before .before .compress .ensures) (c .before .before .pack .ensures)
 
 pub public-part-spec : {M : Type 1} → statement M

@@ -12,7 +12,7 @@ use lib.ListN.{length, drop}
 use denote.Ref.{now}
 use borrow.Author.Needs.{needs}
 use Rattle.bits.specs.Bits.{Below}
-use Rattle.kindi.specs.Params.{width, lengthOf, storedLength}
+use Rattle.kindi.specs.Params.{width, lengthOf}
 use Rattle.kindi.specs.Keys.{joined}
 use Rattle.pke.proofs.Amounts.{length-none, length-bound, square, width-bound, reads, part-length}
 use Rattle.pke.proofs.Joining.{rest-long, same-long, joined-none, joined-turn, joined-end}
@@ -20,12 +20,12 @@ use Rattle.pke.proofs.keygen.public_parts.Statement.{statement}
 use Rattle.pke.proofs.keygen.public_parts.Tie as tie
 
 abbrev Inv-loop : tie.InvT-loop
-Inv-loop p rows secrets r f₀ acc₀ dst₀ row error part row-at₀ error-at₀ at₀ i₀ f acc dst row-at error-at at i =
-    (i ≤ p .l) × (row-at ≡ lengthOf p (i * p .l) (p .k)) × (error-at ≡ lengthOf p (p .l + i) (width p)) × (at ≡ lengthOf p i (p .k - p .t))
-    × (length f ≡ length f₀) × (length acc ≡ length acc₀) × (length dst ≡ length dst₀) × (dst ≡ joined i (storedPart p rows secrets) ++ drop at dst₀)
+Inv-loop p t rows secrets r f₀ acc₀ dst₀ row error part row-at₀ error-at₀ at₀ i₀ f acc dst row-at error-at at i =
+    (i ≤ p .l) × (row-at ≡ lengthOf p (i * p .l) (p .k)) × (error-at ≡ lengthOf p (p .l + i) (width p)) × (at ≡ lengthOf p i (p .k - t))
+    × (length f ≡ length f₀) × (length acc ≡ length acc₀) × (length dst ≡ length dst₀) × (dst ≡ joined i (storedPart p t rows secrets) ++ drop at dst₀)
 
 abbrev μ-loop : tie.MeasureT-loop
-μ-loop p rows secrets r f₀ acc₀ dst₀ row error part row-at₀ error-at₀ at₀ i₀ f acc dst row-at error-at at i =
+μ-loop p t rows secrets r f₀ acc₀ dst₀ row error part row-at₀ error-at₀ at₀ i₀ f acc dst row-at error-at at i =
     p .l - i
 
 length-of-requires : tie.Need-length-of-requires Inv-loop μ-loop
@@ -55,11 +55,12 @@ length-of-requires-4 c κs =
 
 loop-holds : tie.Need-loop-holds Inv-loop μ-loop
 loop-holds c =
-    let p = c .before .before .before .before .before .before .before .before .before .before .before .before .before .args .p in (
+    let p = c .before .before .before .before .before .before .before .before .before .before .before .before .before .args .p in
+    let t = c .before .before .before .before .before .before .before .before .before .before .before .before .before .args .t in (
       omega arith,
       sym (ap (λ (m : ℕ). lengthOf p m (p .k)) (zero-mul (p .l)) ∙ length-none p (p .k)),
       c .length-of4 .ensures .0 ∙ ap₂ (lengthOf p) (sym (add-zero (p .l))) (c .before .width2 .ensures),
-      sym (length-none p (p .k - p .t)),
+      sym (length-none p (p .k - t)),
       refl,
       refl,
       refl,
@@ -124,8 +125,8 @@ add-public-part c =
     let pre = c .before .before .before .before .before .before .before .before .before .before .before .before .before .before .before .before .before .before .before .before .before .before .before .before .pre .0 in
     let h = c .before .before .before .before .before .before .before .before .before .before .loop in
     let turn : h .i < p .l = omega arith in
-    let small : storedLength p ≤ 65536 = length-bound p (pre .well) (omega (arith, pre .well .few)) (omega (arith, pre .well .word)) in
-    omega (small, arith, part-inside p turn, h .inv .3, h .inv .6, pre .stored-long, c .before .before .before .before .before .before .before .before .before .before .before .before .before .length-of3 .ensures .0)
+    let small : lengthOf p (p .l) (p .k - a .t) ≤ 65536 = length-bound p (pre .well) (omega (arith, pre .well .few)) (omega (arith, pre .well .word)) in
+    omega (small, arith, part-inside p (p .k - a .t) turn, h .inv .3, h .inv .6, pre .stored-long, c .before .before .before .before .before .before .before .before .before .before .before .before .before .length-of3 .ensures .0)
 
 sub-public-part-2 : tie.Need-sub-public-part-2 Inv-loop μ-loop
 sub-public-part-2 c = omega arith
@@ -140,7 +141,7 @@ part-public-part-end-2 c =
     let pre = c .before .before .before .before .before .before .before .before .before .before .before .before .before .before .before .before .before .before .before .before .before .before .before .before .pre .0 in
     let h = c .before .before .before .before .before .before .before .before .before .before .loop in
     let turn : h .i < p .l = omega arith in
-    omega (arith, part-inside p turn, h .inv .3, h .inv .6, pre .stored-long, c .before .before .before .before .before .before .before .before .before .before .before .before .before .length-of3 .ensures .0)
+    omega (arith, part-inside p (p .k - a .t) turn, h .inv .3, h .inv .6, pre .stored-long, c .before .before .before .before .before .before .before .before .before .before .before .before .before .length-of3 .ensures .0)
 
 public-part-requires : tie.Need-public-part-requires Inv-loop μ-loop
 public-part-requires c κs =
@@ -156,7 +157,8 @@ public-part-requires c κs =
         second = pre .secret-long;
         sum = h .inv .5 ∙ pre .sum;
       },
-      part-length (h .at) (c .before .before .before .before .before .before .before .before .before .before .before .before .before .before .length-of3 .result) (h .dst) (omega (arith, part-inside p turn, h .inv .3, h .inv .6, pre .stored-long, c .before .before .before .before .before .before .before .before .before .before .before .before .before .before .length-of3 .ensures .0)) ∙ c .before .before .before .before .before .before .before .before .before .before .before .before .before .before .length-of3 .ensures .0,
+      pre .some-kept,
+      part-length (h .at) (c .before .before .before .before .before .before .before .before .before .before .before .before .before .before .length-of3 .result) (h .dst) (omega (arith, part-inside p (p .k - a .t) turn, h .inv .3, h .inv .6, pre .stored-long, c .before .before .before .before .before .before .before .before .before .before .before .before .before .before .length-of3 .ensures .0)) ∙ c .before .before .before .before .before .before .before .before .before .before .before .before .before .before .length-of3 .ensures .0,
     )
 
 add-row-at : tie.Need-add-row-at Inv-loop μ-loop
@@ -184,8 +186,8 @@ add-at c =
     let pre = c .before .before .before .before .before .before .before .before .before .before .before .before .before .before .before .before .before .before .before .before .before .before .before .before .before .before .before .before .before .before .pre .0 in
     let h = c .before .before .before .before .before .before .before .before .before .before .before .before .before .before .before .before .loop in
     let turn : h .i < p .l = omega arith in
-    let small : storedLength p ≤ 65536 = length-bound p (pre .well) (omega (arith, pre .well .few)) (omega (arith, pre .well .word)) in
-    omega (small, arith, part-inside p turn, h .inv .3, h .inv .6, pre .stored-long, c .before .before .before .before .before .before .before .before .before .before .before .before .before .before .before .before .before .before .before .length-of3 .ensures .0)
+    let small : lengthOf p (p .l) (p .k - a .t) ≤ 65536 = length-bound p (pre .well) (omega (arith, pre .well .few)) (omega (arith, pre .well .word)) in
+    omega (small, arith, part-inside p (p .k - a .t) turn, h .inv .3, h .inv .6, pre .stored-long, c .before .before .before .before .before .before .before .before .before .before .before .before .before .before .before .before .before .before .before .length-of3 .ensures .0)
 
 add-i : tie.Need-add-i Inv-loop μ-loop
 add-i c = omega arith
@@ -201,21 +203,21 @@ loop-again c =
     let h = c .before .before .before .before .before .before .before .before .before .before .before .before .before .before .before .before .loop in
     let turn : h .i < p .l = omega arith in
     let part : ℕ = c .before .before .before .before .before .before .before .before .before .before .before .before .before .before .before .before .before .before .before .length-of3 .result in
-    let ys : List ℕ = c .before .before .before .before .public-part .last .1 .1 .1 .1 .1 .0 in
+    let ys : List ℕ = c .before .before .before .before .public-part .last .1 .1 .1 .1 .1 .1 .0 in
     let rows = now (a .rows) in
     let secrets = now (a .secrets) in
-    let room : h .at + part ≤ length (h .dst) = omega (arith, part-inside p turn, h .inv .3, h .inv .6, pre .stored-long, c .before .before .before .before .before .before .before .before .before .before .before .before .before .before .before .before .before .before .before .length-of3 .ensures .0) in
+    let room : h .at + part ≤ length (h .dst) = omega (arith, part-inside p (p .k - a .t) turn, h .inv .3, h .inv .6, pre .stored-long, c .before .before .before .before .before .before .before .before .before .before .before .before .before .before .before .before .before .before .before .length-of3 .ensures .0) in
     let bytes : Below 256 rows = λ i. c .before .before .before .before .before .before .before .before .before .before .before .before .before .before .before .before .before .before .before .before .before .before .before .before .before .before .before .before .before .shared-slice-known .given i .fits in
     let bytes' : Below 256 secrets = λ i. c .before .before .before .before .before .before .before .before .before .before .before .before .before .before .before .before .before .before .before .before .before .before .before .before .before .before .before .before .shared-slice-known2 .given i .fits in (
       omega arith,
       length-more p (p .k) (h .i * p .l) (p .l) (rw add-one (sym (suc-mul (h .i) (p .l)))) (h .inv .1) (c .before .before .before .before .before .before .before .before .before .before .before .before .before .before .before .before .before .before .before .before .before .before .before .length-of .ensures .0),
       length-more p (width p) (p .l + h .i) 1 (omega arith) (h .inv .2) (c .before .before .before .before .before .before .before .before .before .before .before .before .before .before .before .before .before .before .before .before .before .length-of2 .ensures .0 ∙ ap (lengthOf p 1) (c .before .before .before .before .before .before .before .before .before .before .before .before .before .before .before .before .before .before .before .before .before .before .width .ensures)),
-      length-more p (p .k - p .t) (h .i) 1 refl (h .inv .3) (c .before .before .before .before .before .before .before .before .before .before .before .before .before .before .before .before .before .before .before .length-of3 .ensures .0),
+      length-more p (p .k - a .t) (h .i) 1 refl (h .inv .3) (c .before .before .before .before .before .before .before .before .before .before .before .before .before .before .before .before .before .before .before .length-of3 .ensures .0),
       c .before .before .before .before .before .before .before .before .before .before .before .unpack .kept .1 .1 .0 ∙ h .inv .4,
-      c .before .before .before .before .public-part .kept .1 .1 .1 .1 .0 ∙ h .inv .5,
-      same-long (h .at) part ys (h .dst) room (c .before .before .before .before .public-part .kept .1 .1 .1 .1 .1 .0) ∙ h .inv .6,
-      joined-turn (h .i) (h .at) part (storedPart p rows secrets) (now (a .dst)) (h .dst) ys (length-parts p (pre .well) rows secrets (h .i) ∙ sym (h .inv .3)) (h .inv .7)
-          (part-made p (pre .well) rows secrets bytes bytes' (h .i) (h .«row-at») (h .«error-at») (h .inv .1) (h .inv .2) (h .inv .4 ∙ pre .vector-long) (c .before .before .before .before .before .before .before .before .before .before .before .unpack .ensures) (c .before .before .before .before .before .before .before .before .before .before .before .before .before .before .before .before .before .before .before .before .before .before .before .before .before .before .before .before .before .before .pre .1) (c .before .before .before .before .public-part .ensures)),
+      c .before .before .before .before .public-part .kept .1 .1 .1 .1 .1 .0 ∙ h .inv .5,
+      same-long (h .at) part ys (h .dst) room (c .before .before .before .before .public-part .kept .1 .1 .1 .1 .1 .1 .0) ∙ h .inv .6,
+      joined-turn (h .i) (h .at) part (storedPart p (a .t) rows secrets) (now (a .dst)) (h .dst) ys (length-parts p (pre .well) (a .t) rows secrets (h .i) ∙ sym (h .inv .3)) (h .inv .7)
+          (part-made p (pre .well) (a .t) rows secrets bytes bytes' (h .i) (h .«row-at») (h .«error-at») (h .inv .1) (h .inv .2) (h .inv .4 ∙ pre .vector-long) (c .before .before .before .before .before .before .before .before .before .before .before .unpack .ensures) (c .before .before .before .before .before .before .before .before .before .before .before .before .before .before .before .before .before .before .before .before .before .before .before .before .before .before .before .before .before .before .pre .1) (c .before .before .before .before .public-part .ensures)),
     )
 
 same-length : tie.Need-same-length Inv-loop μ-loop
@@ -232,8 +234,8 @@ returns c =
     let a = c .before .before .before .before .before .before .before .before .before .before .before .before .before .before .before .before .args in
     let h = c .before .before .loop in
     let all : h .i ≡ a .p .l = omega arith in
-    let g = storedPart (a .p) (now (a .rows)) (now (a .secrets)) in
-    let full : length (now (a .dst)) ≤ h .at = omega (arith, c .before .before .before .before .before .before .before .before .before .before .before .before .before .before .before .before .pre .0 .stored-long, h .inv .3, ap (λ (m : ℕ). lengthOf (a .p) m (a .p .k - a .p .t)) all) in
+    let g = storedPart (a .p) (a .t) (now (a .rows)) (now (a .secrets)) in
+    let full : length (now (a .dst)) ≤ h .at = omega (arith, c .before .before .before .before .before .before .before .before .before .before .before .before .before .before .before .before .pre .0 .stored-long, h .inv .3, ap (λ (m : ℕ). lengthOf (a .p) m (a .p .k - a .t)) all) in
     joined-end (h .i) (h .at) g (now (a .dst)) (h .dst) full (h .inv .7) ∙ ap (λ (m : ℕ). joined m g) all
 
 pub public-parts-spec : {M : Type 1} → statement M

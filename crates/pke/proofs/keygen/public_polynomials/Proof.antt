@@ -67,13 +67,13 @@ small-requires c κs =
     simp length-take (omega (arith, long, W .vector)) in
     let wide = c .before .before .width .ensures in
     let m = c .before .before .before .before .before .before .matrix .result in
-    let room : m + lengthOf p (p .l) (width p) ≤ length (now (a .streams)) = omega (arith, c .before .before .before .before .before .before .matrix .ensures .0, pre .1, length-le p {a = p .l} {b = 2 * p .l} (width p) (omega arith)) in
+    let room : m + lengthOf p (p .l) (width p) ≤ length (now (a .streams)) = omega (arith, c .before .before .before .before .before .before .matrix .ensures .0, pre .2, length-le p {a = p .l} {b = 2 * p .l} (width p) (omega arith)) in
     (rw wide (width-bound p W), rw wide (reads p W (p .l) (width p) taken (rest-long m (now (a .streams)) room)))
 
 slice-aggregate-public-parts : tie.Need-slice-aggregate-public-parts
 slice-aggregate-public-parts c =
     let pre = c .before .before .before .before .before .before .before .before .before .before .before .before .before .pre in
-    simp length-take (omega (arith, pre .1, c .before .before .before .before .before .before .before .before .before .matrix .ensures .0))
+    simp length-take (omega (arith, pre .2, c .before .before .before .before .before .before .before .before .before .matrix .ensures .0))
 
 sub-public-parts : tie.Need-sub-public-parts
 sub-public-parts c = search needs
@@ -161,12 +161,13 @@ public-parts-requires c κs =
     let there : take (p .l * p .n) (r ++ rest) ≡ r = take-at r rest (p .l * p .n) filled in (
       record {
         well = W;
-        rows-long = simp length-take (omega (arith, start, pre .1));
-        secrets-long = rest-is m (secretsLength p) streams (omega (arith, start, pre .1));
+        rows-long = simp length-take (omega (arith, start, pre .2));
+        secrets-long = rest-is m (secretsLength p) streams (omega (arith, start, pre .2));
         secret-long = ap length there ∙ filled;
         vector-long = room;
         sum = sum-room;
-        stored-long = pre .2;
+        some-kept = pre .1;
+        stored-long = pre .3;
       },
       there ∙ secret-held p secrets (c .before .before .before .before .before .before .before .before .before .before .width .ensures) taken (c .before .before .before .before .before .before .before .small .ensures),
     )
@@ -177,7 +178,7 @@ same-length c = search needs
 returns : tie.Need-returns
 returns c =
     let a = c .before .before .before .before .before .before .before .before .before .before .before .before .before .before .before .before .before .before .before .before .before .before .before .args in
-    stored-made (a .p) (c .before .before .before .before .before .before .before .before .before .before .before .before .before .before .before .before .before .before .before .before .before .before .before .pre .0) (now (a .streams)) (c .before .before .before .before .before .before .before .before .before .before .before .before .before .before .before .before .before .before .before .matrix .result) (c .before .before .before .before .before .before .before .before .before .before .before .before .before .before .before .before .before .before .before .matrix .ensures .0) (c .before .before .before .before .public-parts .ensures)
+    stored-made (a .p) (c .before .before .before .before .before .before .before .before .before .before .before .before .before .before .before .before .before .before .before .before .before .before .before .pre .0) (a .t) (omega (arith, c .before .before .before .before .before .before .before .before .before .before .before .before .before .before .before .before .before .before .before .before .before .before .before .pre .1)) (now (a .streams)) (c .before .before .before .before .before .before .before .before .before .before .before .before .before .before .before .before .before .before .before .matrix .result) (c .before .before .before .before .before .before .before .before .before .before .before .before .before .before .before .before .before .before .before .matrix .ensures .0) (c .before .before .before .before .public-parts .ensures)
 
 pub public-polynomials-spec : {M : Type 1} → statement M
 public-polynomials-spec =
