@@ -9,5 +9,6 @@ pub mod Strict
 pub mod Value
 pub mod Rounding
 pub mod Correct
+pub mod Called
 pub mod Examples
 pub mod Theorems

@@ -17,5 +17,7 @@ pub use Rattle.kindi.proofs.Correct.{clear-key-returns}
 pub use Rattle.kindi.proofs.Correct.{clear-injective}
 -- Clear is what the noise call says: under any secret key of which it answers clear, the pair comes back.
 pub use Rattle.kindi.proofs.Correct.{noise-clear}
+-- The same of the running calls, whose contracts say that they answer so.
+pub use Rattle.kindi.proofs.Called.{decrypt-call-iff, decaps-call-iff, clear-call-returns}
 -- The examples of 01.
 pub use Rattle.kindi.proofs.Examples.{examples}
