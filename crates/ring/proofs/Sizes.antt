@@ -4,24 +4,26 @@ use mathlib.Core.Path.{_≡_, refl, sym, ap, ap₂, _∙_}
 use mathlib.Core.Bool.{Bool, true, false, _&&_}
 use mathlib.Core.List.{List, [], _∷_, _++_}
 use Prim.Native.Nat.{ℕ, zero, suc, _+_, _*_, _^_, _≤_, _<_, max, zero-le, suc-le-suc}
-use native.Mathlib.Nat.{zero-add, lt-of-le-of-lt, le-trans, le-refl, not-suc-le-zero, le-of-suc-le-suc, mul-le-mul, max-zero, le-max-left, le-max-right, max-le}
+use native.Mathlib.Nat.{zero-add, lt-of-le-of-lt, le-trans, le-refl, not-suc-le-zero, le-of-suc-le-suc, mul-le-mul, mul-le-mul-right, le-add-left, add-assoc, max-zero, le-max-left, le-max-right, max-le}
 use native.Mathlib.Omega.{arith}
 use borrow.Author.Tests.{ltb-true, lt-ltb, le-ltb}
 use lib.Dec.{T, ltb}
-use lib.IntN.{ℤ, pos, negsuc, negℤ, natAbs, _+ℤ_, _-ℤ_, _*ℤ_, +ℤ-one, +ℤ-comm, negℤ-+ℤ, negℤ-negℤ}
+use lib.IntN.{ℤ, pos, negsuc, negℤ, natAbs, _+ℤ_, _-ℤ_, _*ℤ_, +ℤ-one, +ℤ-comm, +ℤ-assoc, +ℤ-idl, negℤ-+ℤ, negℤ-negℤ}
 use lib.ListN.{length, getD, take, replicate}
 use lib.Seq.{take-suc}
 use lib.Signed.{mag, ltZ, nonNeg}
 use mir.Syntax.{Width, w16, w32}
-use mir.Val.{SFits, hbits}
+use mir.Val.{SFits, hbits, toZ, ofZ}
+use mir.ValLaws.{toZ-ofZ}
 use Rattle.hash.proofs.Entries.{tabulate-at, length-tabulate}
 use Rattle.ring.proofs.Ring.{sides}
 use Rattle.ring.proofs.Integers.{mag-le, natAbs-mul, natAbs-neg, pos-sub}
-use Rattle.ring.proofs.Sums.{natAbs-sum}
+use Rattle.ring.proofs.Sums.{natAbs-sum, sum-ext, sum-split}
 use Rattle.ring.specs.Poly.{sum, ofInts}
 use Rattle.bits.specs.Bits.{Below}
 use Rattle.ring.specs.Coefficients.{centredIntegers}
 use Rattle.ring.specs.Integers.{centred, largest, between, allBetween}
+use Rattle.ring.specs.Terms.{terms, Terms}
 
 -- ---- signed words
 
@@ -138,6 +140,44 @@ pub dot-fits : (a b : List ℤ) (j n : ℕ) → j ≤ n → n * (largest a * lar
 dot-fits a b j n h k =
     fits-abs w32 (sum j (λ i. ofInts a i *ℤ ofInts b i))
     (lt-of-le-of-lt (le-trans (dot-size a b j) (mul-le-mul h (le-refl (largest a * largest b)))) k)
+
+-- A term is at most the product of the largest entries.
+term-size : (a b : List ℤ) (i : ℕ) → natAbs (terms a b i) ≤ largest a * largest b
+term-size a b i = rw (natAbs-mul (ofInts a i) (ofInts b i)) (mul-le-mul (le-largest a i) (le-largest b i))
+
+-- Two terms fit a word, and so do up to m from place i on.
+pub two-fit : (a b : List ℤ) (i m j k : ℕ) → Terms a b i m → 2 ≤ m → natAbs (terms a b j) + natAbs (terms a b k) < 2 ^ 31
+two-fit a b i m j k t h =
+    let L : ℕ = largest a * largest b in
+    let most : 2 * L ≤ length a * L = mul-le-mul-right L (le-trans h (le-trans (le-add-left m i) (t .there))) in
+    omega (arith, term-size a b j, term-size a b k, most, t .small)
+
+pub terms-fit : (a b : List ℤ) (i m k : ℕ) → Terms a b i m → k ≤ m → SFits w32 (sum k (λ j. terms a b (i + j)))
+terms-fit a b i m k t h =
+    let L : ℕ = largest a * largest b in
+    let most : k * L ≤ length a * L = mul-le-mul-right L (le-trans h (le-trans (le-add-left m i) (t .there))) in
+    fits-abs w32 (sum k (λ j. terms a b (i + j)))
+    (lt-of-le-of-lt (le-trans (natAbs-sum k L (λ j. terms a b (i + j)) (λ j _. term-size a b (i + j))) most) (t .small))
+
+-- What adding two words gives, where they are x and y.
+pub word-sum : {x y r s : ℤ} → SFits w32 r → SFits w32 s → r ≡ x → s ≡ y → toZ w32 (ofZ w32 r) +ℤ toZ w32 (ofZ w32 s) ≡ x +ℤ y
+word-sum {r = r} {s = s} fr fs er es = ap₂ _+ℤ_ (toZ-ofZ w32 r fr ∙ er) (toZ-ofZ w32 s fs ∙ es)
+
+-- The product of two entries that are words is a term.
+pub term-read : (a b : List ℤ) (i : ℕ) → SFits w16 (ofInts a i) → SFits w16 (ofInts b i)
+    → toZ w16 (ofZ w16 (ofInts a i)) *ℤ toZ w16 (ofZ w16 (ofInts b i)) ≡ terms a b i
+term-read a b i fa fb = ap₂ _*ℤ_ (toZ-ofZ w16 (ofInts a i) fa) (toZ-ofZ w16 (ofInts b i) fb)
+
+-- Pairs of terms first.
+pub four-terms : (g : ℕ → ℤ) → (g 0 +ℤ g 1) +ℤ (g 2 +ℤ g 3) ≡ sum 4 g
+unfolding sum
+four-terms g = simp (+ℤ-assoc, +ℤ-idl)
+
+-- Four terms, then four more.
+pub eight-terms : (f : ℕ → ℤ) (i : ℕ) → sum 4 (λ j. f (i + j)) +ℤ sum 4 (λ j. f (i + 4 + j)) ≡ sum 8 (λ j. f (i + j))
+eight-terms f i =
+    ap (λ (x : ℤ). sum 4 (λ j. f (i + j)) +ℤ x) (sum-ext 4 (λ j. f (i + 4 + j)) (λ j. f (i + (4 + j))) (λ j _. ap f (add-assoc i 4 j)))
+    ∙ sym (sum-split 4 4 (λ j. f (i + j)))
 
 -- ---- intervals
 

@@ -1,9 +1,11 @@
 -- The terms of products as the code adds them: what its smaller functions leave. Rests on Poly.
+use mathlib.Core.Path.{_≡_}
 use mathlib.Core.List.{List, _++_}
-use Prim.Native.Nat.{ℕ, _+_, _-_, _*_, _%_}
-use lib.IntN.{ℤ, negℤ}
+use Prim.Native.Nat.{ℕ, _+_, _-_, _*_, _%_, _^_, _≤_, _<_}
+use lib.IntN.{ℤ, negℤ, _*ℤ_}
 use lib.ListN.{length, getD}
 use Rattle.hash.specs.Lists.{tabulate}
+use Rattle.ring.specs.Integers.{largest}
 use Rattle.ring.specs.Poly.{ofNats, ofInts, residues}
 
 -- The term a·b added to acc.
@@ -26,3 +28,13 @@ backwards b = tabulate (length b) (λ i. ofInts b (length b - 1 - i))
 
 abbrev pub negatedBackwards : List ℤ → List ℤ
 negatedBackwards b = tabulate (length b) (λ i. negℤ (ofInts b (length b - 1 - i)))
+
+-- The terms of a sum of products: entry i of a times entry i of b.
+abbrev pub terms : List ℤ → List ℤ → ℕ → ℤ
+terms a b i = ofInts a i *ℤ ofInts b i
+
+-- m entries from place i on, in lists so small that no sum of terms leaves 32 bits.
+pub record Terms (a b : List ℤ) (i m : ℕ) : Type 0 where
+  pub same : length b ≡ length a
+  pub there : i + m ≤ length a
+  pub small : length a * (largest a * largest b) < 2 ^ 31

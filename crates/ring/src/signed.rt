@@ -2,14 +2,14 @@
 // size of what comes out.
 ghost use mathlib.Core.Path.{_≡_};
 ghost use mathlib.Core.List.{_++_};
-ghost use Prim.Native.Nat.{_*_, _^_, _<_, max};
-ghost use lib.IntN.{natAbs, negℤ, _*ℤ_};
+ghost use Prim.Native.Nat.{_+_, _*_, _/_, _^_, _<_, max};
+ghost use lib.IntN.{natAbs, negℤ, _+ℤ_, _*ℤ_};
 ghost use lib.ListN.{length};
 ghost use Rattle.bits.specs.Bits.{Below};
 ghost use Rattle.ring.specs.Integers.{centred, largest, allBetween};
 ghost use Rattle.ring.specs.Poly.{sum, ofInts};
 ghost use Rattle.ring.specs.Coefficients.{Summable, centredIntegers, withSignedProduct};
-ghost use Rattle.ring.specs.Terms.{backwards, negatedBackwards};
+ghost use Rattle.ring.specs.Terms.{backwards, negatedBackwards, terms, Terms};
 
 fn less(v: u16, p: u16) -> i16
     requires { ⌜ (v < 32768) × (p < 32768) ⌝ }
@@ -36,13 +36,51 @@ fn times(a: i16, b: i16) -> i32
     a as i32 * b as i32
 }
 
+// Two terms.
+fn pair(a: i16, b: i16, c: i16, d: i16) -> i32
+    requires { ⌜ natAbs (a *ℤ b) + natAbs (c *ℤ d) < 2 ^ 31 ⌝ }
+    ensures { λ r. ⌜ r ≡ a *ℤ b +ℤ c *ℤ d ⌝ }
+{
+    times(a, b) + times(c, d)
+}
+
+// Four terms from place i on. Pairs are added first: so the compiler multiplies eight at a time.
+fn four(a: &[i16], b: &[i16], i: usize) -> i32
+    requires { ⌜ Terms (now a) (now b) i 4 ⌝ }
+    ensures { λ r. ⌜ r ≡ sum 4 (λ j. terms (now (a .entry)) (now (b .entry)) (i + j)) ⌝ }
+{
+    pair(a[i], b[i], a[i + 1], b[i + 1]) + pair(a[i + 2], b[i + 2], a[i + 3], b[i + 3])
+}
+
+// Eight terms from place i on.
+fn eight(a: &[i16], b: &[i16], i: usize) -> i32
+    requires { ⌜ Terms (now a) (now b) i 8 ⌝ }
+    ensures { λ r. ⌜ r ≡ sum 8 (λ j. terms (now (a .entry)) (now (b .entry)) (i + j)) ⌝ }
+{
+    four(a, b, i) + four(a, b, i + 4)
+}
+
+// The sum of the products of the entries up to a multiple of eight.
+fn dot_eights(a: &[i16], b: &[i16]) -> i32
+    requires { ⌜ (length (now b) ≡ length (now a)) × (length (now a) * (largest (now a) * largest (now b)) < 2 ^ 31) ⌝ }
+    ensures { λ r. ⌜ r ≡ sum (length (now (a .entry)) / 8 * 8) (terms (now (a .entry)) (now (b .entry))) ⌝ }
+{
+    let mut total = 0i32;
+    let mut i = 0;
+    while 8 <= a.len() - i {
+        total = total + eight(a, b, i);
+        i += 8;
+    }
+    total
+}
+
 // The sum of the products of the entries.
 fn dot(a: &[i16], b: &[i16]) -> i32
     requires { ⌜ (length (now b) ≡ length (now a)) × (length (now a) * (largest (now a) * largest (now b)) < 2 ^ 31) ⌝ }
     ensures { λ r. ⌜ r ≡ sum (length (now (a .entry))) (λ i. ofInts (now (a .entry)) i *ℤ ofInts (now (b .entry)) i) ⌝ }
 {
-    let mut total = 0i32;
-    let mut i = 0;
+    let mut total = dot_eights(a, b);
+    let mut i = a.len() / 8 * 8;
     while i < a.len() {
         total = total + times(a[i], b[i]);
         i += 1;

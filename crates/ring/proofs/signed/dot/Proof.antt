@@ -1,30 +1,36 @@
--- `ring::signed::dot` meets its contract: after i turns the first i products are added, and a word holds the sum.
+-- `ring::signed::dot` meets its contract: after the eights one product a turn is added, and a word holds the sum.
 -- Assumes nothing.
-use mathlib.Core.Path.{ap₂, _≡_, refl, ap, _∙_}
+use mathlib.Core.Path.{ap₂, _≡_, ap, _∙_}
 use Prim.Native.Nat.{suc, ℕ, _-_, _≤_}
 use native.Mathlib.Numerals.{add-one}
 use native.Mathlib.Omega.{arith}
 use borrow.Author.Needs.{needs}
 use denote.Ref.{now}
-use lib.IntN.{ℤ, _+ℤ_, _*ℤ_}
+use lib.IntN.{ℤ, _+ℤ_}
 use lib.ListN.{length}
-use mir.Syntax.{w16, w32}
+use mir.Syntax.{w32}
 use mir.Val.{toZ, ofZ}
 use mir.ValLaws.{toZ-ofZ}
-use Rattle.ring.proofs.Sizes.{dot-fits}
-use Rattle.ring.specs.Poly.{sum, ofInts}
+use Rattle.ring.proofs.Sizes.{dot-fits, term-read}
+use Rattle.ring.specs.Poly.{sum}
+use Rattle.ring.specs.Terms.{terms}
 use Rattle.ring.proofs.signed.dot.Statement.{statement}
 use Rattle.ring.proofs.signed.dot.Tie as tie
 
 abbrev Inv-loop : tie.InvT-loop
-Inv-loop a b total₀ i₀ total i = (i ≤ length a) × (total ≡ ofZ w32 (sum i (λ j. ofInts a j *ℤ ofInts b j)))
+Inv-loop a b total₀ i₀ total i = (i ≤ length a) × (total ≡ ofZ w32 (sum i (terms a b)))
 
 abbrev μ-loop : tie.MeasureT-loop
 μ-loop a b total₀ i₀ total i = length a - i
 
+dot-eights-requires : tie.Need-dot-eights-requires Inv-loop μ-loop
+dot-eights-requires c κs = c .pre
+
+mul-i : tie.Need-mul-i Inv-loop μ-loop
+mul-i c = omega arith
+
 loop-holds : tie.Need-loop-holds Inv-loop μ-loop
-unfolding sum
-loop-holds c = (omega arith, refl)
+loop-holds c = (omega arith, ap (ofZ w32) (c .dot-eights .ensures))
 
 mul-times : tie.Need-mul-times Inv-loop μ-loop
 mul-times c = omega arith
@@ -42,29 +48,22 @@ times-requires : tie.Need-times-requires Inv-loop μ-loop
 times-requires c κs = search needs
 
 -- The sum with a term more.
-next : (c : tie.After-times Inv-loop μ-loop)
-    → toZ w32 (c .before .before .before .before .loop .total) +ℤ toZ w32 (ofZ w32 (c .times .result))
-    ≡ sum (suc (c .before .before .before .before .loop .i)) (λ j. ofInts (now (c .before .before .before .before .before .args .a)) j *ℤ ofInts (now (c .before .before .before .before .before .args .b)) j)
+next : (c : tie.After-times Inv-loop μ-loop) → toZ w32 (c .before .before .before .before .loop .total) +ℤ toZ w32 (ofZ w32 (c .times .result)) ≡ sum (suc (c .before .before .before .before .loop .i)) (terms (now (c .before .before .before .before .before .before .args .a)) (now (c .before .before .before .before .before .before .args .b)))
 unfolding sum
 next c =
     let h = c .before .before .before .before .loop in
-    let a = c .before .before .before .before .before .args in
-    let x = ofInts (now (a .a)) (h .i) in
-    let y = ofInts (now (a .b)) (h .i) in
-    let same-x : toZ w16 (ofZ w16 x) ≡ x = toZ-ofZ w16 x (record { sfits = c .before .before .times-arg .given }) in
-    let same-y : toZ w16 (ofZ w16 y) ≡ y = toZ-ofZ w16 y (record { sfits = c .before .times-arg2 .given }) in
-    let f : ℕ → ℤ = λ j. ofInts (now (a .a)) j *ℤ ofInts (now (a .b)) j in
-    let total : toZ w32 (h .total) ≡ sum (h .i) f =
-    ap (toZ w32) (h .inv .1)
-    ∙ toZ-ofZ w32 (sum (h .i) f) (dot-fits (now (a .a)) (now (a .b)) (h .i) (length (now (a .a))) (h .inv .0) (c .before .before .before .before .before .pre .1))
-    in
-    ap₂ _+ℤ_ total (toZ-ofZ w32 (c .times .result) (record { sfits = c .times .ok }) ∙ c .times .ensures ∙ ap₂ _*ℤ_ same-x same-y)
+    let a = c .before .before .before .before .before .before .args in
+    let f : ℕ → ℤ = terms (now (a .a)) (now (a .b)) in
+    ap₂ _+ℤ_
+    (ap (toZ w32) (h .inv .1) ∙ toZ-ofZ w32 (sum (h .i) f) (dot-fits (now (a .a)) (now (a .b)) (h .i) (length (now (a .a))) (h .inv .0) (c .before .before .before .before .before .before .pre .1)))
+    (toZ-ofZ w32 (c .times .result) (record { sfits = c .times .ok }) ∙ c .times .ensures
+    ∙ term-read (now (a .a)) (now (a .b)) (h .i) (record { sfits = c .before .before .times-arg .given }) (record { sfits = c .before .times-arg2 .given }))
 
 add-total : tie.Need-add-total Inv-loop μ-loop
 add-total c =
     let h = c .before .before .before .before .loop in
-    let a = c .before .before .before .before .before .args in
-    rw (next c) (dot-fits (now (a .a)) (now (a .b)) (suc (h .i)) (length (now (a .a))) (omega arith) (c .before .before .before .before .before .pre .1))
+    let a = c .before .before .before .before .before .before .args in
+    rw (next c) (dot-fits (now (a .a)) (now (a .b)) (suc (h .i)) (length (now (a .a))) (omega arith) (c .before .before .before .before .before .before .pre .1))
 
 add-i : tie.Need-add-i Inv-loop μ-loop
 add-i c = omega arith
@@ -73,18 +72,16 @@ loop-less : tie.Need-loop-less Inv-loop μ-loop
 loop-less c = omega arith
 
 loop-again : tie.Need-loop-again Inv-loop μ-loop
-loop-again c =
-    (omega arith, ap (ofZ w32) (next c) ∙ rw add-one)
+loop-again c = (omega arith, ap (ofZ w32) (next c) ∙ rw add-one)
 
 returns : tie.Need-returns Inv-loop μ-loop
 returns c =
     let h = c .before .loop in
-    let a = c .before .before .args in
+    let a = c .before .before .before .args in
     let all : h .i ≡ length (now (a .a)) = omega arith in
     ap (toZ w32) (h .inv .1)
-    ∙ toZ-ofZ w32 (sum (h .i) (λ j. ofInts (now (a .a)) j *ℤ ofInts (now (a .b)) j))
-    (dot-fits (now (a .a)) (now (a .b)) (h .i) (length (now (a .a))) (h .inv .0) (c .before .before .pre .1))
-    ∙ ap (λ (n : ℕ). sum n (λ j. ofInts (now (a .a)) j *ℤ ofInts (now (a .b)) j)) all
+    ∙ toZ-ofZ w32 (sum (h .i) (terms (now (a .a)) (now (a .b)))) (dot-fits (now (a .a)) (now (a .b)) (h .i) (length (now (a .a))) (h .inv .0) (c .before .before .before .pre .1))
+    ∙ ap (λ (n : ℕ). sum n (terms (now (a .a)) (now (a .b)))) all
 
 pub dot-spec : {M : Type 1} → statement M
 dot-spec =
@@ -92,6 +89,8 @@ dot-spec =
     (tie.spec
     Inv-loop
     μ-loop
+    dot-eights-requires
+    mul-i
     loop-holds
     mul-times
     shared-slice-copy-out-times
