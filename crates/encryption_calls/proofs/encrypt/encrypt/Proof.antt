@@ -1,0 +1,76 @@
+-- `encryption_calls::encrypt::encrypt` meets its contract: the status is the answer's number, and the inner function gives its value (`Exits`).
+-- Assumes nothing.
+use borrow.Author.Needs.{needs}
+use denote.Ref.{now}
+use Rattle.encryption_calls.proofs.Exits.{encrypt-refused, encrypt-fits, encrypt-exit}
+use Rattle.encryption_calls.proofs.encrypt.encrypt.Statement.{statement}
+use Rattle.encryption_calls.proofs.encrypt.encrypt.Tie as tie
+
+parameters-requires : tie.Need-parameters-requires
+parameters-requires c κs = search needs
+
+encrypt-work-requires : tie.Need-encrypt-work-requires
+encrypt-work-requires c κs = search needs
+
+status-requires : tie.Need-status-requires
+status-requires c κs = search needs
+
+finish-requires : tie.Need-finish-requires
+finish-requires c κs = search needs
+
+same-length : tie.Need-same-length
+same-length c = search needs
+
+returns : tie.Need-returns
+returns c =
+    let refused = c .before .before in
+    let checked = refused .before .before .before in
+    let known = checked .before .before in
+    encrypt-refused _ _ _ _ _ _ _ _ (known .parameters .ensures .are) (checked .status .ensures) (refused .before .before .if1 .taken)
+    (checked .before .encrypt-work .ensures) (refused .finish .ensures)
+
+encrypt-requires : tie.Need-encrypt-requires
+encrypt-requires c κs =
+    let checked = c .before .before .before in
+    let known = checked .before .before in
+    let a = known .before .before .before .before .before .before .args in
+    let fits =
+    encrypt-fits (a .set) _ (now (a .pk)) (now (a .coins)) (now (a .message)) (now (a .ct)) (now (a .work)) _
+    (known .parameters .ensures .are) (checked .status .ensures) (c .before .before .if1 .left)
+    in
+    search needs
+
+finish-requires-2 : tie.Need-finish-requires-2
+finish-requires-2 c κs = search needs
+
+same-length-2 : tie.Need-same-length-2
+same-length-2 c = search needs
+
+same-length-3 : tie.Need-same-length-3
+same-length-3 c = search needs
+
+returns-2 : tie.Need-returns-2
+returns-2 c =
+    let wiped = c .before .before in
+    let made = wiped .before .before .before .before .before .before in
+    let passed = made .before .before .before in
+    let checked = passed .before in
+    let known = checked .before .before in
+    encrypt-exit _ _ _ _ _ _ _ _ (known .parameters .ensures .are) (checked .status .ensures) _ (passed .if1 .left)
+    (made .encrypt .ensures) (checked .before .encrypt-work .ensures) (made .encrypt .kept .1 .1 .1 .1 .1 .0) (wiped .finish2 .ensures)
+
+pub encrypt-spec : {M : Type 1} → statement M
+encrypt-spec =
+    tie.close
+    (tie.spec
+    parameters-requires
+    encrypt-work-requires
+    status-requires
+    finish-requires
+    same-length
+    returns
+    encrypt-requires
+    finish-requires-2
+    same-length-2
+    same-length-3
+    returns-2)

@@ -1,0 +1,3 @@
+-- What the contracts of `encryption_calls` say.
+pub mod Status
+pub mod Exits

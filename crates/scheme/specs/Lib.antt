@@ -1,3 +1,0 @@
--- What the contracts of `scheme` say.
-pub mod Status
-pub mod Exits
