@@ -2,3 +2,4 @@
 pub mod Value
 pub mod Left
 pub mod Masked
+pub mod Fitting

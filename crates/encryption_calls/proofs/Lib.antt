@@ -1,4 +1,5 @@
--- The laws that the proofs of `encryption_calls` share.
+-- The laws that the proofs of the calls share.
 pub mod Ends
+pub mod Checked
 pub mod Calls
 pub mod Exits

@@ -4,7 +4,7 @@ ghost use lib.ListN.{length, replicate};
 ghost use Rattle.kindi.specs.Calls.{workAfter};
 use crate::checks;
 
-fn wipe(work: &mut [u8])
+pub fn wipe(work: &mut [u8])
     ensures { λ _. ⌜ now (work .exit) ≡ replicate (length (now (work .entry))) 0 ⌝ }
 {
     let mut i = 0;
