@@ -1,0 +1,3 @@
+-- What the contracts of `noise` say.
+pub mod Terms
+pub mod Rooms
