@@ -107,3 +107,10 @@ pub record NoiseRoom (P : Params) (b coins secrets stream : List ℕ) : Type 0 w
   pub coins-long : length coins ≡ P .coins
   pub secrets-long : length secrets ≡ secretsLength P
   pub stream-long : length stream ≡ coinsStreamLength P
+
+-- The same with the streams one after the other.
+pub record StreamsRoom (P : Params) (b coins streams : List ℕ) : Type 0 where
+  pub well : WellFormed P
+  pub value-long : length b ≡ lengthOf P (P .l) (P .k)
+  pub coins-long : length coins ≡ P .coins
+  pub streams-long : length streams ≡ secretsLength P + coinsStreamLength P

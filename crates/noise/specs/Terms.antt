@@ -9,7 +9,7 @@ use Rattle.bits.specs.Bits.{pack, unpack}
 use Rattle.ring.specs.Integers.{centred}
 use Rattle.ring.specs.Poly.{Poly, plus, minus, dot}
 use Rattle.kindi.specs.declared.Params.{Params}
-use Rattle.kindi.specs.Params.{lowLength, paddedLength, highLength}
+use Rattle.kindi.specs.Params.{lowLength, paddedLength, highLength, secretsLength}
 use Rattle.kindi.specs.Streams.{coefficient, smallIn, lowIn, ephemeralBy}
 use Rattle.kindi.specs.Keys.{compress}
 
@@ -34,3 +34,7 @@ noiseIn P b coins secrets stream =
     let e = smallIn P (take (paddedLength P) (drop (lowLength P) stream)) in
     let s = ephemeralBy P coins (drop end stream) (drop (end + highLength P) stream) in
     minus (plus (dot (P .l) (P .n) (keyNoiseIn P stream secrets b) s) (e (P .l))) (dot (P .l) (P .n) e (smallIn P secrets))
+
+-- Its coefficients, where the streams lie one after the other.
+unfoldable pub noisesFrom : Params → List ℕ → List ℕ → List ℕ → List ℤ
+noisesFrom P b coins streams = tabulate (P .n) (noiseIn P b coins (take (secretsLength P) streams) (drop (secretsLength P) streams))

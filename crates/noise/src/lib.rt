@@ -79,5 +79,5 @@ pub fn measure(
     let end = public + p.seed;
     hash::shake(p.rate, &sk[public..end], &mut work[..secrets]);
     masked_stream(p, coins, message, &mut work[secrets..need]);
-    sums::sizes(p, b, coins, &work[..secrets], &work[secrets..need])
+    sums::sizes(p, b, coins, &work[..need])
 }

@@ -9,8 +9,8 @@ ghost use Rattle.ring.specs.Poly.{plus, minus, dot, ofInts};
 ghost use Rattle.kindi.specs.Params.{WellFormed, modulus};
 ghost use Rattle.kindi.specs.Streams.{smallIn, ephemeralBy};
 ghost use Rattle.kindi.specs.Noise.{inside};
-ghost use Rattle.noise.specs.Rooms.{SumRoom, ErrorsRoom, KeysRoom, NoiseRoom};
-ghost use Rattle.noise.specs.Terms.{keyNoiseIn, noiseIn};
+ghost use Rattle.noise.specs.Rooms.{SumRoom, ErrorsRoom, KeysRoom, NoiseRoom, StreamsRoom};
+ghost use Rattle.noise.specs.Terms.{keyNoiseIn, noiseIn, noisesFrom};
 use crate::Measured;
 use crate::factors;
 use kindi::Params;
@@ -138,13 +138,15 @@ fn quarter(p: Params) -> i32
     vectors::power(p.k - 2) as i32
 }
 
-// Whether the noise lies strictly between −q/4 and q/4, and its largest absolute value.
-pub fn sizes(p: Params, b: &[u8], coins: &[u8], secrets: &[u8], stream: &[u8]) -> Measured
-    requires { ⌜ NoiseRoom p (now b) (now coins) (now secrets) (now stream) ⌝ }
-    ensures { λ r. ⌜ (r .clear ≡ inside (modulus p) (tabulate (p .n) (noiseIn p (now (b .entry)) (now (coins .entry)) (now (secrets .entry)) (now (stream .entry)))))
-        × (r .largest ≡ largest (tabulate (p .n) (noiseIn p (now (b .entry)) (now (coins .entry)) (now (secrets .entry)) (now (stream .entry))))) ⌝ }
+// Whether the noise lies strictly between −q/4 and q/4, and its largest absolute value; streams are that of γ, then that of the
+// coins with the masked message.
+pub fn sizes(p: Params, b: &[u8], coins: &[u8], streams: &[u8]) -> Measured
+    requires { ⌜ StreamsRoom p (now b) (now coins) (now streams) ⌝ }
+    ensures { λ r. ⌜ (r .clear ≡ inside (modulus p) (noisesFrom p (now (b .entry)) (now (coins .entry)) (now (streams .entry))))
+        × (r .largest ≡ largest (noisesFrom p (now (b .entry)) (now (coins .entry)) (now (streams .entry)))) ⌝ }
 {
     let n = p.n;
+    let secrets = lengths::secrets(p);
     let mut x = factor();
     let mut s = factor();
     let mut acc = zeros();
@@ -152,15 +154,16 @@ pub fn sizes(p: Params, b: &[u8], coins: &[u8], secrets: &[u8], stream: &[u8]) -
         p,
         b,
         coins,
-        secrets,
-        stream,
+        &streams[..secrets],
+        &streams[secrets..],
         &mut x[..n],
         &mut s[..n],
         &mut acc[..n],
     );
     let end = quarter(p);
+    let clear = signed::all_between(&acc[..n], 0 - end, end);
     Measured {
-        clear: signed::all_between(&acc[..n], 0 - end, end),
+        clear: clear,
         largest: signed::largest(&acc[..n]),
     }
 }

@@ -103,7 +103,7 @@ assemble-is P W pk coins X s dst m a k h em ea ek eh isS isD =
 -- ---- the streams as `expand` leaves them
 
 -- The low parts do not reach the masked message.
-low-there : (P : Params) → WellFormed P → (S rest : List ℕ) → Below 256 S → lowLength P ≤ length S
+pub low-there : (P : Params) → WellFormed P → (S rest : List ℕ) → Below 256 S → lowLength P ≤ length S
     → (i x : ℕ) → i < P .l → x < P .n → lowIn P (take (lowLength P) S ++ rest) i x ≡ lowIn P S i x
 low-there P W S rest below long i x h l =
     let first : List ℕ = take (lowLength P) S in
@@ -122,11 +122,11 @@ factor-ext P pk A w w' j i x true e = refl
 factor-ext P pk A w w' j i x false e =
     ap (λ (v : ℤ). (pos (2 ^ P .t * stored P pk i x) +ℤ v) +ℤ cond (eqb i 0) (pos (half P) *ℤ unit x) (pos 0)) e
 
-length-stream : (P : Params) (coins : List ℕ) → length (coinsStream P coins) ≡ coinsStreamLength P
+pub length-stream : (P : Params) (coins : List ℕ) → length (coinsStream P coins) ≡ coinsStreamLength P
 unfolding coinsStream
 length-stream P coins = length-shake (P .rate) coins (coinsStreamLength P)
 
-stream-below : (P : Params) (coins : List ℕ) → Below 256 (coinsStream P coins)
+pub stream-below : (P : Params) (coins : List ℕ) → Below 256 (coinsStream P coins)
 unfolding coinsStream
 stream-below P coins = shake-below (P .rate) coins (coinsStreamLength P)
 

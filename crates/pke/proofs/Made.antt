@@ -34,13 +34,13 @@ use Rattle.pke.proofs.Joining.{pack-joined, first-same, then-rest, then
 -- ---- compressed values
 
 -- Values below 2^w are their low w bits.
-low-same : (w : ℕ) (xs : List ℕ) → Below (2 ^ w) xs → lowBits w xs ≡ xs
+pub low-same : (w : ℕ) (xs : List ℕ) → Below (2 ^ w) xs → lowBits w xs ≡ xs
 unfolding lowBits
 low-same w [] below = refl
 low-same w (x ∷ xs) below = ap₂ _∷_ (mod-eq-of-lt (below zero)) (low-same w xs (λ i. below (suc i)))
 
 -- Values of k bits have k − t bits once compressed.
-compressed-below : (k t : ℕ) (xs : List ℕ) → t ≤ k → Below (2 ^ k) xs → Below (2 ^ (k - t)) (map (compress t) xs)
+pub compressed-below : (k t : ℕ) (xs : List ℕ) → t ≤ k → Below (2 ^ k) xs → Below (2 ^ (k - t)) (map (compress t) xs)
 compressed-below k t [] h below i = pow-pos (k - t)
 compressed-below k t (x ∷ xs) h below zero =
     let whole : k - t + t ≡ k = omega arith in

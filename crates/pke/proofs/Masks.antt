@@ -51,7 +51,7 @@ behind m a k A S ys long =
     ap₂ (λ (p q : List ℕ). p ++ (ys ++ drop k q)) before after ∙ append-assoc A (take a S) (ys ++ drop k (drop a S))
 
 -- The masked message: the mask with the message and its byte 01 added.
-masked-is : (P : Params) (coins message : List ℕ) → xorInto (mask P coins) (message ++ (1 ∷ [])) ≡ masked P coins message
+pub masked-is : (P : Params) (coins message : List ℕ) → xorInto (mask P coins) (message ++ (1 ∷ [])) ≡ masked P coins message
 unfolding masked padded
 masked-is P coins message =
     let k : ℕ = paddedLength P - (length message + 1) in

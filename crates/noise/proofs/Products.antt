@@ -1,0 +1,109 @@
+-- Laws of sums of products over the integers that are added one by one: what is there after each, and that it fits 32 bits.
+-- Assumes nothing.
+use mathlib.Core.Path.{_≡_, refl, sym, ap, ap₂, _∙_}
+use mathlib.Core.List.{List}
+use Prim.Native.Nat.{ℕ, zero, suc, _+_, _*_, _^_, _≤_, _<_, suc-le-suc, zero-le}
+use native.Mathlib.Nat.{le-trans, le-refl, lt-of-le-of-lt, mul-le-mul, mul-le-mul-right, mul-assoc, suc-mul}
+use native.Mathlib.Numerals.{add-one}
+use native.Mathlib.Omega.{arith}
+use lib.IntN.{ℤ, pos, negℤ, natAbs, _+ℤ_, _-ℤ_, +ℤ-idr, +ℤ-idl, +ℤ-assoc, +ℤ-comm}
+use lib.ListN.{length, getD, replicate}
+use Rattle.hash.specs.Lists.{tabulate}
+use Rattle.hash.proofs.Entries.{tabulate-at, length-tabulate}
+use Rattle.bits.proofs.Filling.{tabulate-ext, tabulate-entries, tabulate-constant}
+use Rattle.ring.specs.Integers.{largest}
+use Rattle.ring.specs.Poly.{Poly, sum, mul, plus, minus, dot, ofInts}
+use Rattle.ring.specs.Coefficients.{Summable, withSignedProduct}
+use Rattle.ring.proofs.Integers.{natAbs-add, natAbs-neg, +ℤ-left-comm}
+use Rattle.ring.proofs.Sums.{natAbs-sum}
+use Rattle.ring.proofs.Ring.{mul-ext, natAbs-mul-poly}
+use Rattle.ring.proofs.Sizes.{largest-le, le-largest}
+
+-- acc with the first i products of two vectors added.
+abbrev pub partial : ℕ → List ℤ → (ℕ → Poly) → (ℕ → Poly) → ℕ → List ℤ
+partial n acc F S i = tabulate n (plus (ofInts acc) (dot i n F S))
+
+-- None.
+pub partial-none : (n : ℕ) (acc : List ℤ) (F S : ℕ → Poly) → length acc ≡ n → acc ≡ partial n acc F S 0
+unfolding dot sum
+partial-none n acc F S e =
+    sym (tabulate-entries acc (pos 0)) ∙ ap (λ (m : ℕ). tabulate m (ofInts acc)) e
+    ∙ tabulate-ext n _ _ (λ k h. sym (+ℤ-idr (ofInts acc k)))
+
+-- An entry of a table.
+pub ofInts-table : (n : ℕ) (f : Poly) (k : ℕ) → k < n → ofInts (tabulate n f) k ≡ f k
+ofInts-table n f k h = tabulate-at n f k (pos 0) h
+
+-- One more.
+pub partial-more : (n : ℕ) (acc₀ : List ℤ) (F S : ℕ → Poly) (i : ℕ) {acc x s : List ℤ} → acc ≡ partial n acc₀ F S i
+    → x ≡ tabulate n (F i) → s ≡ tabulate n (S i) → withSignedProduct acc x s ≡ partial n acc₀ F S (i + 1)
+unfolding dot sum
+partial-more n acc₀ F S i {acc} {x} {s} e ex es =
+    let long : length acc ≡ n = ap length e ∙ length-tabulate n (plus (ofInts acc₀) (dot i n F S)) in
+    ap (λ (m : ℕ). tabulate m (plus (ofInts acc) (mul m (ofInts x) (ofInts s)))) long
+    ∙ tabulate-ext n _ _ (λ k h.
+    ap₂ _+ℤ_ (ap (λ (l : List ℤ). ofInts l k) e ∙ ofInts-table n (plus (ofInts acc₀) (dot i n F S)) k h)
+    (mul-ext n (ofInts x) (F i) (ofInts s) (S i)
+    (λ j l. ap (λ (r : List ℤ). ofInts r j) ex ∙ ofInts-table n (F i) j l)
+    (λ j l. ap (λ (r : List ℤ). ofInts r j) es ∙ ofInts-table n (S i) j l) h)
+    ∙ +ℤ-assoc (ofInts acc₀ k) (dot i n F S k) (mul n (F i) (S i) k)
+    ∙ ap (λ (m : ℕ). ofInts acc₀ k +ℤ dot m n F S k) (sym (add-one i)))
+
+-- ---- sizes
+
+-- Coefficients of at most b.
+abbrev pub Sized : ℕ → ℕ → Poly → Type 0
+Sized n b f = (k : ℕ) → k < n → natAbs (f k) ≤ b
+
+pub largest-table : (n b : ℕ) (f : Poly) → Sized n b f → largest (tabulate n f) ≤ b
+largest-table n b f h =
+    largest-le (tabulate n f) b (λ k l.
+    let inside : k < n = rw (length-tabulate n f) at l in
+    rw (tabulate-at n f k (pos 0) inside) (h k inside))
+
+-- i products of factors of at most 256 and 64.
+dot-size : (i n : ℕ) (F S : ℕ → Poly) (k : ℕ) → ((j : ℕ) → Sized n 256 (F j)) → ((j : ℕ) → Sized n 64 (S j)) → k < n
+    → natAbs (dot i n F S k) ≤ i * n * 16384
+unfolding dot
+dot-size i n F S k hF hS h =
+    rw (mul-assoc i n 16384) (natAbs-sum i (n * 16384) (λ j. mul n (F j) (S j) k) (λ j _. natAbs-mul-poly n 256 64 (F j) (S j) (hF j) (hS j) h))
+
+partial-size : (n : ℕ) (acc : List ℤ) (F S : ℕ → Poly) (i : ℕ) → ((j : ℕ) → Sized n 256 (F j)) → ((j : ℕ) → Sized n 64 (S j))
+    → largest (partial n acc F S i) ≤ largest acc + i * n * 16384
+partial-size n acc F S i hF hS =
+    largest-table n (largest acc + i * n * 16384) (plus (ofInts acc) (dot i n F S))
+    (λ k h. omega (arith, natAbs-add (ofInts acc k) (dot i n F S k), le-largest acc k, dot-size i n F S k hF hS h))
+
+-- What is there after all of them.
+pub whole-size : (l n : ℕ) (acc : List ℤ) (F S : ℕ → Poly) → l * n ≤ 1536 → ((j : ℕ) → Sized n 256 (F j)) → ((j : ℕ) → Sized n 64 (S j))
+    → largest (partial n acc F S l) ≤ largest acc + 25165824
+whole-size l n acc F S h hF hS = omega (arith, partial-size n acc F S l hF hS)
+
+-- One more product fits.
+pub summable : (l n : ℕ) (acc₀ : List ℤ) (F S : ℕ → Poly) (i : ℕ) {acc x s : List ℤ} → i < l → n ≤ 512 → l * n ≤ 1536 → largest acc₀ ≤ 2 ^ 30
+    → ((j : ℕ) → Sized n 256 (F j)) → ((j : ℕ) → Sized n 64 (S j))
+    → acc ≡ partial n acc₀ F S i → x ≡ tabulate n (F i) → s ≡ tabulate n (S i) → Summable acc x s
+summable l n acc₀ F S i {acc} {x} {s} turn short vector start hF hS e ex es =
+    let long : length acc ≡ n = ap length e ∙ length-tabulate n (plus (ofInts acc₀) (dot i n F S)) in
+    let lx : length x ≡ n = ap length ex ∙ length-tabulate n (F i) in
+    let ls : length s ≡ n = ap length es ∙ length-tabulate n (S i) in
+    let bx : largest x ≤ 256 = rw ex (largest-table n 256 (F i) (hF i)) in
+    let bs : largest s ≤ 64 = rw es (largest-table n 64 (S i) (hS i)) in
+    let term : n * (largest x * largest s) ≤ n * 16384 = mul-le-mul (le-refl n) (mul-le-mul bx bs) in
+    let before : largest acc ≤ largest acc₀ + i * n * 16384 = rw e (partial-size n acc₀ F S i hF hS) in
+    let room : i * n + n ≤ l * n = rw (sym (suc-mul i n)) (mul-le-mul-right n turn) in
+    record {
+      first = lx ∙ sym long;
+      second = ls ∙ sym long;
+      short = omega (arith, long);
+      negatable = omega (arith, bs);
+      small = rw long (omega (arith, term, before, room));
+    }
+
+-- ---- the noise
+
+-- The last error less what is there.
+pub rest-size : (n : ℕ) (x acc : List ℤ) {ys : List ℤ} → ys ≡ tabulate n (minus (ofInts x) (ofInts acc)) → largest ys ≤ largest x + largest acc
+rest-size n x acc e =
+    rw e (largest-table n (largest x + largest acc) (minus (ofInts x) (ofInts acc))
+    (λ k h. omega (arith, natAbs-add (ofInts x k) (negℤ (ofInts acc k)), natAbs-neg (ofInts acc k), le-largest x k, le-largest acc k)))

@@ -1,0 +1,67 @@
+-- `noise::agreement::same_bytes` meets its contract: after i turns it is known whether the first i bytes are the same.
+-- Assumes nothing.
+use mathlib.Core.Bool.{Bool, _&&_}
+use mathlib.Core.Path.{_≡_, refl, ap, ap₂, _∙_}
+use Prim.Native.Nat.{_-_, _≤_}
+use native.Mathlib.Numerals.{add-one}
+use native.Mathlib.Omega.{arith}
+use denote.Ref.{now}
+use lib.Dec.{eqb}
+use lib.ListN.{length, getD, take}
+use lib.Seq.{take-all}
+use Rattle.kindi.specs.Answers.{same}
+use Rattle.noise.proofs.Agreeing.{same-more}
+use Rattle.noise.proofs.agreement.same_bytes.Statement.{statement}
+use Rattle.noise.proofs.agreement.same_bytes.Tie as tie
+
+abbrev Inv-loop : tie.InvT-loop
+Inv-loop a b all₀ i₀ all i = (i ≤ length a) × (all ≡ same (take i a) (take i b))
+
+abbrev μ-loop : tie.MeasureT-loop
+μ-loop a b all₀ i₀ all i = length a - i
+
+loop-holds : tie.Need-loop-holds Inv-loop μ-loop
+unfolding same
+loop-holds c = (omega arith, refl)
+
+shared-slice-read-all : tie.Need-shared-slice-read-all Inv-loop μ-loop
+shared-slice-read-all c = omega arith
+
+shared-slice-read-all-2 : tie.Need-shared-slice-read-all-2 Inv-loop μ-loop
+shared-slice-read-all-2 c = omega arith
+
+add-i : tie.Need-add-i Inv-loop μ-loop
+add-i c = omega arith
+
+loop-less : tie.Need-loop-less Inv-loop μ-loop
+loop-less c = omega arith
+
+loop-again : tie.Need-loop-again Inv-loop μ-loop
+loop-again c =
+    let h = c .before .before .before .loop in
+    let a = c .before .before .before .before .args in
+    let xs = now (a .a) in
+    let ys = now (a .b) in (
+      omega arith,
+      rw add-one (ap (λ (t : Bool). t && eqb (getD xs (h .i) 0) (getD ys (h .i) 0)) (h .inv .1) ∙ same-more xs ys (h .i) (omega arith) (c .before .before .before .before .pre)),
+    )
+
+returns : tie.Need-returns Inv-loop μ-loop
+returns c =
+    let h = c .before .loop in
+    let a = c .before .before .args in
+    h .inv .1 ∙ ap₂ same (take-all (h .i) (now (a .a)) (omega arith)) (take-all (h .i) (now (a .b)) (omega (arith, c .before .before .pre)))
+
+pub same-bytes-spec : {M : Type 1} → statement M
+same-bytes-spec =
+    tie.close
+    (tie.spec
+    Inv-loop
+    μ-loop
+    loop-holds
+    shared-slice-read-all
+    shared-slice-read-all-2
+    add-i
+    loop-less
+    loop-again
+    returns)
