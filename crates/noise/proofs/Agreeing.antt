@@ -9,6 +9,7 @@ use borrow.Author.Tests.{eq-eqb}
 use lib.Dec.{eqb}
 use lib.ListN.{length, getD, take, drop, length-take, length-map, take-append-drop}
 use lib.Pow.{pow-pos}
+use lib.Seq.{take-take}
 use Rattle.bits.specs.Bits.{Below, pack, unpack, lowBits}
 use Rattle.bits.proofs.Digits.{unpack-below, unpack-pack}
 use Rattle.ring.specs.Poly.{residues}
@@ -95,8 +96,9 @@ pub value-made : (P : Params) (sk streams : List ℕ) {ys : List ℕ} → stream
 unfolding valueOf
 value-made P sk streams e ey =
     let f : ℕ → List ℕ = λ i. residues (modulus P) (P .n) (public P (matrixSeed P (publicPart P sk)) (secretSeed P sk) i) in
+    let none : P .k - 0 ≡ P .k = omega arith in
     ey ∙ stored-of P 0 (matrixSeed P (publicPart P sk)) (secretSeed P sk) streams e
-    ∙ ap (pack (P .k)) (sym (map-joined (compress 0) (P .l) f) ∙ compress-none (joined (P .l) f))
+    ∙ ap₂ pack none (sym (map-joined (compress 0) (P .l) f) ∙ compress-none (joined (P .l) f))
 
 -- A key agrees where it stores b without its low bits: its μ is that of b.
 pub agrees-is : (P : Params) → WellFormed P → (sk : List ℕ) {a : ℕ} → length sk ≡ secretLength P → a ≡ storedLength P
@@ -109,14 +111,8 @@ agrees-is P W sk {a} long ea =
     let f : ℕ → List ℕ = λ i. residues (modulus P) (P .n) (public P μ (secretSeed P sk) i) in
     let sized : (i : ℕ) → length (f i) ≡ P .n = λ i. length-residues (modulus P) (P .n) (public P μ (secretSeed P sk) i) in
     let Z : List ℕ = pack (P .k - P .t) (joined (P .l) (λ i. map (compress (P .t)) (f i))) in
-    let first : take a sk ≡ take n pk = ap (λ (m : ℕ). take m sk) ea ∙ take-within n (publicLength P) sk (omega arith) in
+    let first : take a sk ≡ take n pk = ap (λ (m : ℕ). take m sk) ea ∙ sym (take-take n (publicLength P) sk (omega arith)) in
     let size : length (take n pk) ≡ n = simp length-take (omega (arith, long)) in
     let size' : length Z ≡ n = length-string P W (P .l) (P .k - P .t) (λ i. map (compress (P .t)) (f i)) (λ i _. length-map (f i) (compress (P .t)) ∙ sized i) in
     ap₂ same first (dropped-packed P f (λ i _. sized i) (λ i _. residues-below (pow-pos (P .k)) (P .n) (public P μ (secretSeed P sk) i)))
     ∙ sym (same-after (take n pk) Z μ (size ∙ sym size')) ∙ ap (λ (l : List ℕ). same l (Z ++ μ)) (take-append-drop n pk)
-  where
-    take-within : (i j : ℕ) (xs : List ℕ) → i ≤ j → take i xs ≡ take i (take j xs)
-    take-within zero j xs h = refl
-    take-within (suc i) zero xs h = absurd (not-suc-le-zero h)
-    take-within (suc i) (suc j) [] h = refl
-    take-within (suc i) (suc j) (x ∷ xs) h = ap (λ (l : List ℕ). x ∷ l) (take-within i j xs (le-of-suc-le-suc h))

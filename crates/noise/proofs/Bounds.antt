@@ -2,7 +2,7 @@
 use mathlib.Core.Path.{_≡_, sym, ap, _∙_}
 use mathlib.Core.List.{List}
 use Prim.Native.Nat.{ℕ, zero, suc, _+_, _-_, _*_, _/_, _%_, _^_, _≤_, _<_, suc-le-suc, zero-le}
-use native.Mathlib.Nat.{le-trans, lt-of-lt-of-le, mod-lt, pow-suc, mul-comm, mul-div-cancel, zero-mul, one-mul, mul-one, not-suc-le-zero}
+use native.Mathlib.Nat.{le-trans, lt-of-lt-of-le, mod-lt, pow-suc, mul-comm, mul-div-cancel, zero-mul, one-mul, mul-one, mul-le-mul, not-suc-le-zero}
 use native.Mathlib.Omega.{arith}
 use lib.IntN.{pos, negℤ, natAbs, _+ℤ_, _-ℤ_}
 use lib.Pow.{pow-pos, pow-mono, pow-add}
@@ -11,12 +11,13 @@ use mir.Val.{SFits}
 use Rattle.hash.specs.Lists.{tabulate}
 use Rattle.bits.specs.Bits.{Below}
 use Rattle.ring.specs.Integers.{centred}
+use Rattle.ring.specs.Poly.{Poly}
 use Rattle.ring.proofs.Integers.{natAbs-add, natAbs-neg}
 use Rattle.ring.proofs.Sizes.{abs-centred, fits-abs}
 use Rattle.kindi.specs.declared.Params.{Params}
-use Rattle.kindi.specs.Params.{WellFormed, width, highWidth, lengthOf}
+use Rattle.kindi.specs.Params.{WellFormed, width, highWidth, lengthOf, storedLength}
 use Rattle.kindi.specs.Streams.{coefficient, smallIn, lowIn, firstIn, ephemeralBy}
-use Rattle.kindi.proofs.Strings.{coefficient-below, tabulate-below}
+use Rattle.kindi.proofs.Strings.{coefficient-below, tabulate-below, whole-bytes}
 use Rattle.noise.specs.Terms.{keyNoiseIn}
 use Rattle.noise.proofs.Products.{Sized}
 
@@ -55,7 +56,7 @@ ephemeral-sized P W coins high rest zero x h =
     (omega (arith, first-below P W coins high x, W .small-secrets))
 ephemeral-sized P W coins high rest (suc i) x h = small-sized P W rest i x h
 
-pub wider : {n : ℕ} (f : ℕ → ℕ → _) → ((j : ℕ) → Sized n 64 (f j)) → (j : ℕ) → Sized n 256 (f j)
+pub wider : {n : ℕ} (f : ℕ → Poly) → ((j : ℕ) → Sized n 64 (f j)) → (j : ℕ) → Sized n 256 (f j)
 wider f h j k l = omega (arith, h j k l)
 
 -- X has coefficients of at most 256.
@@ -106,3 +107,15 @@ first-values P W coins high =
 pub coins-there : (P : Params) → WellFormed P → lengthOf P 0 1 + lengthOf P 1 1 ≤ P .coins
 unfolding lengthOf
 coins-there P W = simp (zero-mul, one-mul, mul-one) (omega (arith, W .eights, W .coin-bits))
+
+-- Values of few bits.
+pub values-below : (b w n : ℕ) (bytes : List ℕ) (m : ℕ) → 2 ^ w ≤ b → Below b (tabulate n (coefficient w n bytes m))
+values-below b w n bytes m h =
+    tabulate-below b n (coefficient w n bytes m) (lt-of-lt-of-le (pow-pos w) h) (λ x _. lt-of-lt-of-le (coefficient-below w n bytes m x) h)
+
+-- Stored polynomials fit 3,072 bytes.
+pub stored-short : (P : Params) → WellFormed P → storedLength P ≤ 3072
+stored-short P W =
+    let narrow : P .k - P .t ≤ 16 = omega (arith, W .word) in
+    let most : (P .k - P .t) * (P .l * P .n) ≤ 16 * 1536 = mul-le-mul narrow (W .vector) in
+    omega (arith, whole-bytes P W (P .l) (P .k - P .t))

@@ -3,3 +3,4 @@ pub mod Agreeing
 pub mod Tables
 pub mod Products
 pub mod Bounds
+pub mod Streams

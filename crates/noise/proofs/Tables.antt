@@ -1,10 +1,10 @@
 -- Laws of values and integers that are tables of a polynomial's coefficients. Assumes nothing.
 use mathlib.Core.Path.{_≡_, refl, sym, ap, ap₂, _∙_}
 use mathlib.Core.List.{List}
-use Prim.Native.Nat.{ℕ, _+_, _*_, _%_, _^_, _≤_, _<_, suc-le-suc, zero-le}
+use Prim.Native.Nat.{ℕ, _+_, _-_, _*_, _%_, _^_, _≤_, _<_, suc-le-suc, zero-le}
 use native.Mathlib.Nat.{lt-of-lt-of-le}
 use native.Mathlib.Omega.{arith}
-use lib.IntN.{ℤ, pos, _+ℤ_}
+use lib.IntN.{pos, _+ℤ_, _-ℤ_}
 use lib.ListN.{length, getD, take, length-take}
 use Rattle.hash.specs.Lists.{tabulate}
 use Rattle.hash.proofs.Entries.{tabulate-at, length-tabulate}
@@ -14,7 +14,9 @@ use Rattle.ring.specs.Integers.{centred, residue}
 use Rattle.ring.specs.Poly.{Poly, ofNats, plus, residues}
 use Rattle.ring.specs.Coefficients.{added, centredIntegers}
 use Rattle.ring.proofs.Modular.{residue-small}
+use Rattle.kindi.specs.declared.Params.{Params}
 use Rattle.pke.specs.Vectors.{raised}
+use Rattle.noise.specs.Terms.{combined}
 
 -- Centred values.
 pub centred-table : (p n : ℕ) (f : ℕ → ℕ) {xs : List ℕ} → xs ≡ tabulate n f → centredIntegers p xs ≡ tabulate n (λ k. centred p (f k))
@@ -45,3 +47,15 @@ twice-table n f g small ex ey ez =
 -- The first n of 512 entries.
 pub prefix-long : {A : Type 0} (n : ℕ) (xs : List A) → length xs ≡ 512 → n ≤ 512 → length (take n xs) ≡ n
 prefix-long n xs e h = simp length-take (omega arith)
+
+-- X from tables of values.
+pub combined-table : (P : Params) (n : ℕ) (f g h : ℕ → ℕ) {w r low : List ℕ} → w ≡ tabulate n f → r ≡ tabulate n g → low ≡ tabulate n h
+    → combined P w r low ≡ tabulate n (λ k. (centred (2 ^ (P .t - 1)) (f k) +ℤ centred (P .p) (g k)) -ℤ pos (h k))
+unfolding combined
+combined-table P n f g h {w} {r} {low} ew er el =
+    let at : (xs : List ℕ) (e : ℕ → ℕ) → xs ≡ tabulate n e → (k : ℕ) → k < n → getD xs k 0 ≡ e k
+    = λ xs e q k l. ap (λ (xs : List ℕ). getD xs k 0) q ∙ tabulate-at n e k 0 l in
+    ap (λ (m : ℕ). tabulate m (λ k. (centred (2 ^ (P .t - 1)) (getD w k 0) +ℤ centred (P .p) (getD r k 0)) -ℤ pos (getD low k 0))) (ap length ew ∙ length-tabulate n f)
+    ∙ tabulate-ext n _ _ (λ k l.
+    ap₂ (λ (a b : ℕ). (centred (2 ^ (P .t - 1)) a +ℤ centred (P .p) b) -ℤ pos (getD low k 0)) (at w f ew k l) (at r g er k l)
+    ∙ ap (λ (v : ℕ). (centred (2 ^ (P .t - 1)) (f k) +ℤ centred (P .p) (g k)) -ℤ pos v) (at low h el k l))

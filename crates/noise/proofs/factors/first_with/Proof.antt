@@ -9,6 +9,7 @@ use denote.Ref.{now}
 use lib.ListN.{length}
 use Rattle.hash.specs.Lists.{tabulate}
 use Rattle.hash.proofs.Entries.{length-tabulate}
+use Rattle.ring.specs.Coefficients.{added}
 use Rattle.kindi.specs.Params.{width, highWidth}
 use Rattle.kindi.specs.Streams.{coefficient}
 use Rattle.pke.proofs.Amounts.{width-bound, length-none}
@@ -19,7 +20,15 @@ use Rattle.noise.proofs.factors.first_with.Tie as tie
 
 -- Bits of the coins plus twice the high part.
 values-are : (c : tie.After-add) → c .add .last .0 ≡ tabulate (c .before .before .before .before .before .before .before .before .before .before .before .before .before .before .before .before .before .before .before .before .args .p .n) (λ x. coefficient 1 (c .before .before .before .before .before .before .before .before .before .before .before .before .before .before .before .before .before .before .before .before .args .p .n) (now (c .before .before .before .before .before .before .before .before .before .before .before .before .before .before .before .before .before .before .before .before .args .coins)) 0 x + 2 * coefficient (highWidth (c .before .before .before .before .before .before .before .before .before .before .before .before .before .before .before .before .before .before .before .before .args .p)) (c .before .before .before .before .before .before .before .before .before .before .before .before .before .before .before .before .before .before .before .before .args .p .n) (now (c .before .before .before .before .before .before .before .before .before .before .before .before .before .before .before .before .before .before .before .before .args .high)) 0 x)
-values-are c = ?
+values-are c =
+    let a = c .before .before .before .before .before .before .before .before .before .before .before .before .before .before .before .before .before .before .before .before .args in
+    let p = a .p in
+    let coins = now (a .coins) in
+    let high = now (a .high) in
+    let W = c .before .before .before .before .before .before .before .before .before .before .before .before .before .before .before .before .before .before .before .before .pre .0 .well in
+    twice-table (p .n) (coefficient 1 (p .n) coins 0) (coefficient (highWidth p) (p .n) high 0) (λ x. omega (arith, first-below p W coins high x, W .small-secrets))
+    (c .before .before .before .before .before .before .before .before .before .before .before .before .before .before .values .ensures) (c .before .before .before .before .before .before .before .before .before .values2 .ensures ∙ ap (λ (w : ℕ). tabulate (p .n) (coefficient (w - 1) (p .n) high 0)) (c .before .before .before .before .before .before .before .before .before .before .before .width .ensures))
+    (c .add .ensures ∙ ap (added (c .before .before .before .before .before .before .before .before .before .before .before .before .before .before .values .last .1 .1 .1 .1 .0)) (c .before .before .before .before .before .raise .ensures))
 
 values-requires : tie.Need-values-requires
 values-requires c κs =

@@ -1,59 +1,90 @@
+-- `noise::sums::add_errors` meets its contract: after j turns j products are added.
+-- Assumes nothing.
+use mathlib.Core.Path.{_≡_, refl, sym, ap, _∙_}
+use Prim.Native.Nat.{ℕ, _-_, _≤_, _<_}
+use native.Mathlib.Omega.{arith}
+use denote.Ref.{now}
+use lib.ListN.{length}
+use Rattle.hash.proofs.Entries.{length-tabulate}
+use Rattle.bits.proofs.Filling.{turn-less}
+use Rattle.kindi.specs.Params.{width}
+use Rattle.kindi.specs.Streams.{smallIn}
+use Rattle.pke.proofs.Amounts.{width-bound, within}
+use Rattle.noise.proofs.Products.{partial, partial-none, partial-more, summable}
+use Rattle.noise.proofs.Bounds.{small-sized, wider}
 use Rattle.noise.proofs.sums.add_errors.Statement.{statement}
 use Rattle.noise.proofs.sums.add_errors.Tie as tie
-use Rattle.noise.proofs.sums.add_errors.Reads as reads
-use Rattle.noise.proofs.sums.add_errors.Lts as lts
-use Rattle.noise.proofs.factors.small.Reads as small-reads
-use Rattle.ring.proofs.signed.multiply_add.Reads as multiply-add-reads
 
 abbrev Inv-loop : tie.InvT-loop
-Inv-loop p masked secrets x₀ s₀ acc₀ j₀ x s acc j = ?
+Inv-loop p masked secrets x₀ s₀ acc₀ j₀ x s acc j = (j ≤ p .l) × (length x ≡ length x₀) × (length s ≡ length s₀) × (acc ≡ partial (p .n) acc₀ (smallIn p masked) (smallIn p secrets) j)
 
 abbrev μ-loop : tie.MeasureT-loop
-μ-loop p masked secrets x₀ s₀ acc₀ j₀ x s acc j = ?
+μ-loop p masked secrets x₀ s₀ acc₀ j₀ x s acc j = p .l - j
 
--- src/sums.rt:45:5
 loop-holds : tie.Need-loop-holds Inv-loop μ-loop
-loop-holds c = ?
+loop-holds c = (omega arith, refl, refl, partial-none (c .before .before .args .p .n) (now (c .before .before .args .acc)) _ _ (c .before .before .pre .0 .sum))
 
--- src/sums.rt:46:9
 small-requires : tie.Need-small-requires Inv-loop μ-loop
-small-requires c κs = ?
+small-requires c κs =
+    let p = c .before .before .before .before .before .before .args .p in
+    let pre = c .before .before .before .before .before .before .pre in
+    let W = pre .0 .well in
+    let h = c .before .before .before .loop in
+    let turn : h .j < p .l = omega arith in
+    record { well = W; narrow = width-bound p W; few = omega (arith, W .few); there = rw (pre .1 .masked-long) (within p (width p) (omega arith)); room-is = h .inv .1 ∙ pre .0 .first }
 
--- src/sums.rt:47:9
 small-requires-2 : tie.Need-small-requires-2 Inv-loop μ-loop
-small-requires-2 c κs = ?
+small-requires-2 c κs =
+    let p = c .before .before .before .before .before .before .before .before .before .args .p in
+    let pre = c .before .before .before .before .before .before .before .before .before .pre in
+    let W = pre .0 .well in
+    let h = c .before .before .before .before .before .before .loop in
+    let turn : h .j < p .l = omega arith in
+    record { well = W; narrow = width-bound p W; few = omega (arith, W .few); there = rw (pre .1 .secrets-long) (within p (width p) (omega arith)); room-is = h .inv .2 ∙ pre .0 .second }
 
--- src/sums.rt:48:9
 multiply-add-requires : tie.Need-multiply-add-requires Inv-loop μ-loop
-multiply-add-requires c κs = ?
+multiply-add-requires c κs =
+    let a = c .before .before .before .before .before .before .before .before .before .before .before .before .before .before .args in
+    let p = a .p in
+    let pre = c .before .before .before .before .before .before .before .before .before .before .before .before .before .before .pre .0 in
+    let W = pre .well in
+    let h = c .before .before .before .before .before .before .before .before .before .before .before .loop in
+    summable (p .l) (p .n) (now (a .acc)) (smallIn p (now (a .masked))) (smallIn p (now (a .secrets))) (h .j) (omega arith) (W .short) (W .vector) (pre .small) (wider (smallIn p (now (a .masked))) (small-sized p W (now (a .masked)))) (small-sized p W (now (a .secrets)))
+    (h .inv .3) (c .before .before .before .before .before .before .before .small .ensures) (c .before .before .before .before .small2 .ensures)
 
--- src/sums.rt:49:9
 add-j : tie.Need-add-j Inv-loop μ-loop
-add-j c = ?
+add-j c = omega (arith, c .before .before .before .before .before .before .before .before .before .before .before .before .before .before .before .before .pre .0 .well .few)
 
--- src/sums.rt:45:5
 loop-less : tie.Need-loop-less Inv-loop μ-loop
-loop-less c = ?
+loop-less c = turn-less (omega arith)
 
--- src/sums.rt:45:5
 loop-again : tie.Need-loop-again Inv-loop μ-loop
-loop-again c = ?
+loop-again c =
+    let a = c .before .before .before .before .before .before .before .before .before .before .before .before .before .before .before .before .args in
+    let p = a .p in
+    let h = c .before .before .before .before .before .before .before .before .before .before .before .before .before .loop in (
+      omega arith,
+      c .before .before .before .before .before .before .before .before .before .small .kept .1 .1 .1 .0 ∙ h .inv .1,
+      c .before .before .before .before .before .before .small2 .kept .1 .1 .1 .0 ∙ h .inv .2,
+      c .before .multiply-add .ensures ∙ partial-more (p .n) (now (a .acc)) (smallIn p (now (a .masked))) (smallIn p (now (a .secrets))) (h .j) (h .inv .3) (c .before .before .before .before .before .before .before .before .before .small .ensures) (c .before .before .before .before .before .before .small2 .ensures),
+    )
 
--- src/sums.rt:32:1
 same-length : tie.Need-same-length Inv-loop μ-loop
-same-length c = ?
+same-length c = c .before .before .loop .inv .1
 
--- src/sums.rt:32:1
 same-length-2 : tie.Need-same-length-2 Inv-loop μ-loop
-same-length-2 c = ?
+same-length-2 c = c .before .before .loop .inv .2
 
--- src/sums.rt:32:1
 same-length-3 : tie.Need-same-length-3 Inv-loop μ-loop
-same-length-3 c = ?
+same-length-3 c = ap length (c .before .before .loop .inv .3) ∙ length-tabulate (c .before .before .before .before .before .args .p .n) _ ∙ sym (c .before .before .before .before .before .pre .0 .sum)
 
--- src/sums.rt:32:1
 returns : tie.Need-returns Inv-loop μ-loop
-returns c = ?
+returns c =
+    let a = c .before .before .before .before .before .args in
+    let p = a .p in
+    let h = c .before .before .loop in
+    let all : h .j ≡ p .l = omega arith in
+    h .inv .3 ∙ ap (partial (p .n) (now (a .acc)) (smallIn p (now (a .masked))) (smallIn p (now (a .secrets)))) all
 
 pub add-errors-spec : {M : Type 1} → statement M
 add-errors-spec =

@@ -1,0 +1,137 @@
+-- Laws of the streams of γ and of the coins in the work area: the masked message in its place, and the noise of what stands
+-- there. Assumes nothing.
+use mathlib.Core.Path.{_≡_, refl, sym, ap, ap₂, _∙_}
+use mathlib.Core.List.{List, [], _∷_, _++_}
+use Prim.Native.Nat.{ℕ, _+_, _-_, _*_, _%_, _^_, _≤_, _<_}
+use native.Mathlib.Nat.{add-assoc, add-sub-cancel-left}
+use native.Mathlib.Omega.{arith}
+use lib.IntN.{ℤ, pos, negℤ, _+ℤ_, _-ℤ_, +ℤ-idl, +ℤ-comm, +ℤ-assoc}
+use lib.ListN.{length, take, drop, getD, replicate, length-take, length-drop}
+use lib.Pow.{pow-pos}
+use lib.Seq.{take-at, take-add, drop-at, drop-drop}
+use Rattle.hash.specs.Lists.{tabulate}
+use Rattle.hash.specs.Shake.{shake, xorInto}
+use Rattle.hash.proofs.Parts.{patched}
+use Rattle.hash.proofs.Laws.{length-shake}
+use Rattle.bits.specs.Bits.{pack}
+use Rattle.bits.proofs.Filling.{tabulate-ext, tabulate-constant}
+use Rattle.ring.specs.Integers.{residue}
+use Rattle.ring.specs.Poly.{Poly, plus, minus, dot, ofInts, residues}
+use Rattle.ring.proofs.Ring.{dot-ext}
+use Rattle.ring.proofs.Residues.{residues-at, residues-below, length-residues}
+use Rattle.kindi.specs.declared.Params.{Params}
+use Rattle.kindi.specs.Params.{WellFormed, modulus, storedLength, secretLength, lowLength, paddedLength, highLength, secretsLength, coinsStreamLength}
+use Rattle.kindi.specs.Streams.{coefficient, smallIn, lowIn, lowPart, keySecret, secret, mask, coinsStream, ephemeralBy, ephemeral}
+use Rattle.kindi.specs.Keys.{joined, public, publicPart, matrixSeed, secretSeed}
+use Rattle.kindi.specs.Encrypt.{masked, error}
+use Rattle.kindi.specs.Noise.{keyNoise, noise, noises}
+use Rattle.kindi.proofs.Padding.{length-masked}
+use Rattle.kindi.proofs.Strings.{coefficient-packed}
+use Rattle.pke.proofs.Masks.{masked-is}
+use Rattle.pke.proofs.Assembly.{low-there, length-stream, stream-below}
+use Rattle.noise.specs.Rooms.{valueOf}
+use Rattle.noise.specs.Terms.{keyNoiseIn, noiseIn, noisesFrom}
+use Rattle.noise.proofs.Products.{ofInts-table}
+
+-- The stream of the coins with the masked message in the mask's place.
+abbrev pub maskedStream : Params → List ℕ → List ℕ → List ℕ
+maskedStream P coins message = patched (lowLength P) (paddedLength P) (masked P coins message) (coinsStream P coins)
+
+-- What `masked_stream` leaves.
+pub masked-made : (P : Params) (coins message : List ℕ) (a k : ℕ) {N : ℕ} {S ys : List ℕ} → a ≡ lowLength P → k ≡ paddedLength P → N ≡ coinsStreamLength P
+    → S ≡ shake (P .rate) coins N → ys ≡ xorInto (take (a + k - a) (drop a S)) (message ++ (1 ∷ []))
+    → patched a (a + k - a) ys S ≡ maskedStream P coins message
+unfolding coinsStream mask
+masked-made P coins message a k {N} {S} {ys} ea ek en es ey =
+    let stream : S ≡ coinsStream P coins = es ∙ ap (shake (P .rate) coins) en in
+    let back : a + k - a ≡ paddedLength P = add-sub-cancel-left a k ∙ ek in
+    let there : take (a + k - a) (drop a S) ≡ mask P coins = ap₂ take back (ap₂ drop ea stream) in
+    let part : ys ≡ masked P coins message = ey ∙ ap (λ (l : List ℕ). xorInto l (message ++ (1 ∷ []))) there ∙ masked-is P coins message in
+    ap₂ (λ (i j : ℕ). patched i j ys S) ea back ∙ ap₂ (patched (lowLength P) (paddedLength P)) part stream
+
+-- ---- the parts of a secret key
+
+-- μ and γ, as the checker writes these parts.
+pub matrix-seed-part : (P : Params) (sk : List ℕ) {a : ℕ} → length sk ≡ secretLength P → a ≡ storedLength P
+    → take (a + P .seed - a) (drop a sk) ≡ matrixSeed P (publicPart P sk)
+unfolding matrixSeed publicPart
+matrix-seed-part P sk {a} long e =
+    let n : ℕ = storedLength P in
+    let size : length (take n sk) ≡ n = simp length-take (omega (arith, long)) in
+    ap (λ (m : ℕ). take m (drop a sk)) (add-sub-cancel-left a (P .seed)) ∙ ap (λ (m : ℕ). take (P .seed) (drop m sk)) e
+    ∙ sym (ap (drop n) (take-add n (P .seed) sk) ∙ drop-at (take n sk) (take (P .seed) (drop n sk)) n size)
+
+pub secret-seed-part : (P : Params) (sk : List ℕ) {a : ℕ} → a ≡ storedLength P
+    → take (a + P .seed + P .seed - (a + P .seed)) (drop (a + P .seed) sk) ≡ secretSeed P sk
+unfolding secretSeed
+secret-seed-part P sk {a} e =
+    ap (λ (m : ℕ). take m (drop (a + P .seed) sk)) (add-sub-cancel-left (a + P .seed) (P .seed)) ∙ ap (λ (m : ℕ). take (P .seed) (drop (m + P .seed) sk)) e
+
+-- ---- the noise of the streams
+
+-- X of the streams is X of the keys.
+key-noise-is : (P : Params) → WellFormed P → (sk coins b Z : List ℕ) (i x : ℕ) → b ≡ valueOf P sk → i < P .l → x < P .n
+    → lowIn P Z i x ≡ lowIn P (coinsStream P coins) i x
+    → keyNoiseIn P Z (shake (P .rate) (secretSeed P sk) (secretsLength P)) b i x ≡ keyNoise P (matrixSeed P (publicPart P sk)) (secretSeed P sk) coins i x
+unfolding keyNoiseIn keyNoise keySecret lowPart valueOf
+key-noise-is P W sk coins b Z i x eb hi hx low =
+    let μ : List ℕ = matrixSeed P (publicPart P sk) in
+    let γ : List ℕ = secretSeed P sk in
+    let f : ℕ → List ℕ = λ j. residues (modulus P) (P .n) (public P μ γ j) in
+    let value : coefficient (P .k) (P .n) b i x ≡ residue (modulus P) (public P μ γ i x)
+    = ap (λ (l : List ℕ). coefficient (P .k) (P .n) l i x) eb
+    ∙ coefficient-packed (P .k) (P .n) (P .l) f i x (λ j _. length-residues (modulus P) (P .n) (public P μ γ j))
+    (λ j _. residues-below (pow-pos (P .k)) (P .n) (public P μ γ j)) hi hx
+    ∙ residues-at (modulus P) (P .n) (public P μ γ i) hx in
+    ap₂ (λ (w : ℤ) (v : ℕ). (w +ℤ smallIn P (shake (P .rate) γ (secretsLength P)) (P .l + i) x) -ℤ pos (v % 2 ^ P .t)) low value
+
+-- The streams give the noise.
+pub noises-are : (P : Params) → WellFormed P → (sk b coins message : List ℕ) → b ≡ valueOf P sk
+    → noisesFrom P b coins (shake (P .rate) (secretSeed P sk) (secretsLength P) ++ maskedStream P coins message)
+    ≡ noises P (matrixSeed P (publicPart P sk)) (secretSeed P sk) coins message
+unfolding noisesFrom noiseIn noises noise error ephemeral keySecret
+noises-are P W sk b coins message eb =
+    let μ : List ℕ = matrixSeed P (publicPart P sk) in
+    let γ : List ℕ = secretSeed P sk in
+    let n : ℕ = P .n in
+    let L : ℕ = lowLength P in
+    let K : ℕ = paddedLength P in
+    let H : ℕ = highLength P in
+    let G : List ℕ = shake (P .rate) γ (secretsLength P) in
+    let S : List ℕ = coinsStream P coins in
+    let U : List ℕ = masked P coins message in
+    let Z : List ℕ = maskedStream P coins message in
+    let R : List ℕ = drop K (drop L S) in
+    let E : ℕ → Poly = ephemeralBy P coins (drop (L + K) S) (drop (L + (K + H)) S) in
+    let lg : length G ≡ secretsLength P = length-shake (P .rate) γ (secretsLength P) in
+    let ls : length S ≡ coinsStreamLength P = length-stream P coins in
+    let lw : length (take L S) ≡ L = simp length-take (omega arith) in
+    let tail : drop L Z ≡ U ++ R = drop-at (take L S) (U ++ R) L lw in
+    let mid : take K (drop L Z) ≡ U = ap (take K) tail ∙ take-at U R K (length-masked P coins message) in
+    let high : drop (L + K) Z ≡ drop (L + K) S
+    = sym (drop-drop K L Z) ∙ ap (drop K) tail ∙ drop-at U R K (length-masked P coins message) ∙ drop-drop K L S in
+    let rest : drop (L + K + H) Z ≡ drop (L + (K + H)) S
+    = sym (drop-drop H (L + K) Z) ∙ ap (drop H) high ∙ drop-drop H (L + K) S ∙ ap (λ (i : ℕ). drop i S) (add-assoc L K H) in
+    let same : (i x : ℕ) → i < P .l → x < n → lowIn P Z i x ≡ lowIn P S i x
+    = low-there P W S (U ++ R) (stream-below P coins) (omega arith) in
+    let of : List ℕ → List ℕ → List ℕ → List ℕ → List ℕ → List ℤ
+    = λ g z e h s. tabulate n (minus (plus (dot (P .l) n (keyNoiseIn P z g b) (ephemeralBy P coins h s)) (smallIn P e (P .l))) (dot (P .l) n (smallIn P e) (smallIn P g))) in
+    ap₂ (λ (g z : List ℕ). of g z (take K (drop L z)) (drop (L + K) z) (drop (L + K + H) z)) (take-at G Z (secretsLength P) lg) (drop-at G Z (secretsLength P) lg)
+    ∙ ap₂ (λ (e h : List ℕ). of G Z e h (drop (L + K + H) Z)) mid high ∙ ap (of G Z U (drop (L + K) S)) rest
+    ∙ tabulate-ext n _ _ (λ x h.
+    ap (λ (v : ℤ). (v +ℤ smallIn P U (P .l) x) -ℤ dot (P .l) n (smallIn P U) (smallIn P G) x)
+    (dot-ext (P .l) n (keyNoiseIn P Z G b) (keyNoise P μ γ coins) E E
+    (λ i y p q. key-noise-is P W sk coins b Z i y eb p q (same i y p q)) (λ i y _ _. refl) h))
+
+-- ---- the order of the code
+
+-- The last error less the sum of e_j·r_j, plus the sum of X_i·s_i.
+pub noise-made : (n : ℕ) (D M : Poly) (e : Poly) {zeros errors acc : List ℤ} (x : ℕ) → x < n → zeros ≡ replicate n (pos 0)
+    → errors ≡ tabulate n (plus (ofInts zeros) M) → acc ≡ tabulate n (minus (ofInts (tabulate n e)) (ofInts errors))
+    → ofInts acc x +ℤ D x ≡ (D x +ℤ e x) -ℤ M x
+noise-made n D M e {zeros} {errors} {acc} x h ez ee ea =
+    let at : (xs : List ℤ) (f : Poly) → xs ≡ tabulate n f → ofInts xs x ≡ f x = λ xs f q. ap (λ (xs : List ℤ). ofInts xs x) q ∙ ofInts-table n f x h in
+    let none : ofInts zeros x ≡ pos 0 = at zeros (λ _. pos 0) (ez ∙ sym (tabulate-constant n (pos 0))) in
+    let sum : ofInts errors x ≡ M x = at errors (plus (ofInts zeros) M) ee ∙ ap (λ (z : ℤ). z +ℤ M x) none ∙ +ℤ-idl (M x) in
+    let rest : ofInts acc x ≡ e x -ℤ M x = at acc (minus (ofInts (tabulate n e)) (ofInts errors)) ea ∙ ap₂ _-ℤ_ (ofInts-table n e x h) sum in
+    ap (λ (z : ℤ). z +ℤ D x) rest ∙ +ℤ-comm (e x -ℤ M x) (D x) ∙ sym (+ℤ-assoc (D x) (e x) (negℤ (M x)))

@@ -1,0 +1,74 @@
+-- `noise::factors::key_noise` meets its contract.
+-- Assumes nothing.
+use mathlib.Core.Path.{_≡_, sym}
+use Prim.Native.Nat.{_-_}
+use borrow.Author.Needs.{needs}
+use lib.ListN.{length, take}
+use Rattle.noise.proofs.Tables.{prefix-long}
+use Rattle.noise.proofs.factors.key_noise.Statement.{statement}
+use Rattle.noise.proofs.factors.key_noise.Tie as tie
+
+words-requires : tie.Need-words-requires
+words-requires c κs = search needs
+
+words-requires-2 : tie.Need-words-requires-2
+words-requires-2 c κs = search needs
+
+words-requires-3 : tie.Need-words-requires-3
+words-requires-3 c κs = search needs
+
+array-borrow-prefix-w : tie.Need-array-borrow-prefix-w
+array-borrow-prefix-w c = search needs
+
+slice-aggregate-key-noise-with : tie.Need-slice-aggregate-key-noise-with
+slice-aggregate-key-noise-with c =
+    let room : length (c .before .before .before .words .result) ≡ 512 = search needs in
+    sym (prefix-long (c .before .before .before .before .before .before .before .args .p .n) (c .before .before .before .words .result) room (c .before .before .before .before .before .before .before .pre .well .short))
+
+array-borrow-prefix-r : tie.Need-array-borrow-prefix-r
+array-borrow-prefix-r c = search needs
+
+slice-aggregate-key-noise-with-2 : tie.Need-slice-aggregate-key-noise-with-2
+slice-aggregate-key-noise-with-2 c =
+    let room : length (c .before .before .before .words2 .result) ≡ 512 = search needs in
+    sym (prefix-long (c .before .before .before .before .before .before .before .before .args .p .n) (c .before .before .before .words2 .result) room (c .before .before .before .before .before .before .before .before .pre .well .short))
+
+array-borrow-prefix-v : tie.Need-array-borrow-prefix-v
+array-borrow-prefix-v c = search needs
+
+slice-aggregate-key-noise-with-3 : tie.Need-slice-aggregate-key-noise-with-3
+slice-aggregate-key-noise-with-3 c =
+    let room : length (c .before .before .before .words3 .result) ≡ 512 = search needs in
+    sym (prefix-long (c .before .before .before .before .before .before .before .before .before .args .p .n) (c .before .before .before .words3 .result) room (c .before .before .before .before .before .before .before .before .before .pre .well .short))
+
+key-noise-with-requires : tie.Need-key-noise-with-requires
+key-noise-with-requires c κs =
+    let n = c .before .before .before .before .before .before .before .before .before .before .args .p .n in
+    let short = c .before .before .before .before .before .before .before .before .before .before .pre .well .short in
+    let w : length (c .before .before .before .before .before .before .words .result) ≡ 512 = search needs in
+    let r : length (c .before .before .before .before .before .words2 .result) ≡ 512 = search needs in
+    let v : length (c .before .before .before .before .words3 .result) ≡ 512 = search needs in
+    (c .before .before .before .before .before .before .before .before .before .before .pre, prefix-long n (c .before .before .before .before .before .before .words .result) w short, prefix-long n (c .before .before .before .before .before .words2 .result) r short, prefix-long n (c .before .before .before .before .words3 .result) v short)
+
+same-length : tie.Need-same-length
+same-length c = search needs
+
+returns : tie.Need-returns
+returns c = search needs
+
+pub key-noise-spec : {M : Type 1} → statement M
+key-noise-spec =
+    tie.close
+    (tie.spec
+    words-requires
+    words-requires-2
+    words-requires-3
+    array-borrow-prefix-w
+    slice-aggregate-key-noise-with
+    array-borrow-prefix-r
+    slice-aggregate-key-noise-with-2
+    array-borrow-prefix-v
+    slice-aggregate-key-noise-with-3
+    key-noise-with-requires
+    same-length
+    returns)
