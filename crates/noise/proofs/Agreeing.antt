@@ -15,7 +15,7 @@ use Rattle.bits.proofs.Digits.{unpack-below, unpack-pack}
 use Rattle.ring.specs.Poly.{residues}
 use Rattle.ring.proofs.Residues.{residues-below, length-residues}
 use Rattle.kindi.specs.declared.Params.{Params}
-use Rattle.kindi.specs.Params.{WellFormed, modulus, storedLength, publicLength, secretLength}
+use Rattle.kindi.specs.Params.{WellFormed, modulus, lengthOf, storedLength, publicLength, secretLength}
 use Rattle.kindi.specs.Keys.{compress, joined, public, publicKey, publicPart, matrixSeed, secretSeed}
 use Rattle.kindi.specs.Answers.{same, agrees}
 use Rattle.kindi.proofs.Strings.{length-joined, joined-below, length-string}
@@ -116,3 +116,10 @@ agrees-is P W sk {a} long ea =
     let size' : length Z ≡ n = length-string P W (P .l) (P .k - P .t) (λ i. map (compress (P .t)) (f i)) (λ i _. length-map (f i) (compress (P .t)) ∙ sized i) in
     ap₂ same first (dropped-packed P f (λ i _. sized i) (λ i _. residues-below (pow-pos (P .k)) (P .n) (public P μ (secretSeed P sk) i)))
     ∙ sym (same-after (take n pk) Z μ (size ∙ sym size')) ∙ ap (λ (l : List ℕ). same l (Z ++ μ)) (take-append-drop n pk)
+
+-- b in full has ℓ polynomials.
+pub length-value : (P : Params) → WellFormed P → (sk : List ℕ) → length (valueOf P sk) ≡ lengthOf P (P .l) (P .k)
+unfolding valueOf
+length-value P W sk =
+    length-string P W (P .l) (P .k) (λ i. residues (modulus P) (P .n) (public P (matrixSeed P (publicPart P sk)) (secretSeed P sk) i))
+    (λ i _. length-residues (modulus P) (P .n) (public P (matrixSeed P (publicPart P sk)) (secretSeed P sk) i))

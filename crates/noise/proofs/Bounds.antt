@@ -4,9 +4,9 @@ use mathlib.Core.List.{List}
 use Prim.Native.Nat.{ℕ, zero, suc, _+_, _-_, _*_, _/_, _%_, _^_, _≤_, _<_, suc-le-suc, zero-le}
 use native.Mathlib.Nat.{le-trans, lt-of-lt-of-le, mod-lt, pow-suc, mul-comm, mul-div-cancel, zero-mul, one-mul, mul-one, mul-le-mul, not-suc-le-zero}
 use native.Mathlib.Omega.{arith}
-use lib.IntN.{pos, negℤ, natAbs, _+ℤ_, _-ℤ_}
+use lib.IntN.{pos, negℤ, natAbs, _+ℤ_, _-ℤ_, +ℤ-idl}
 use lib.Pow.{pow-pos, pow-mono, pow-add}
-use mir.Syntax.{w16}
+use mir.Syntax.{w16, w32}
 use mir.Val.{SFits}
 use Rattle.hash.specs.Lists.{tabulate}
 use Rattle.bits.specs.Bits.{Below}
@@ -15,7 +15,7 @@ use Rattle.ring.specs.Poly.{Poly}
 use Rattle.ring.proofs.Integers.{natAbs-add, natAbs-neg}
 use Rattle.ring.proofs.Sizes.{abs-centred, fits-abs}
 use Rattle.kindi.specs.declared.Params.{Params}
-use Rattle.kindi.specs.Params.{WellFormed, width, highWidth, lengthOf, storedLength}
+use Rattle.kindi.specs.Params.{WellFormed, modulus, width, highWidth, lengthOf, storedLength}
 use Rattle.kindi.specs.Streams.{coefficient, smallIn, lowIn, firstIn, ephemeralBy}
 use Rattle.kindi.proofs.Strings.{coefficient-below, tabulate-below, whole-bytes}
 use Rattle.noise.specs.Terms.{keyNoiseIn}
@@ -67,8 +67,16 @@ key-noise-sized P W stream secrets b i x h =
     abs-centred (2 ^ (P .t - 1)) (coefficient (P .t) (P .n) stream i x) (half-power P W) (omega (arith, coefficient-below (P .t) (P .n) stream i x, low-power P W)) in
     let v : ℕ = coefficient (P .k) (P .n) b i x % 2 ^ P .t in
     let dropped : v < 2 ^ P .t = mod-lt (coefficient (P .k) (P .n) b i x) (pow-pos (P .t)) in
-    omega (arith, natAbs-add (lowIn P stream i x +ℤ smallIn P secrets (P .l + i) x) (negℤ (pos v)), natAbs-neg (pos v),
-    natAbs-add (lowIn P stream i x) (smallIn P secrets (P .l + i) x), low, small-sized P W secrets (P .l + i) x h, dropped, low-power P W)
+    omega (
+      arith,
+      natAbs-add (lowIn P stream i x +ℤ smallIn P secrets (P .l + i) x) (negℤ (pos v)),
+      natAbs-neg (pos v),
+      natAbs-add (lowIn P stream i x) (smallIn P secrets (P .l + i) x),
+      low,
+      small-sized P W secrets (P .l + i) x h,
+      dropped,
+      low-power P W,
+    )
 
 -- ---- words
 
@@ -119,3 +127,9 @@ stored-short P W =
     let narrow : P .k - P .t ≤ 16 = omega (arith, W .word) in
     let most : (P .k - P .t) * (P .l * P .n) ≤ 16 * 1536 = mul-le-mul narrow (W .vector) in
     omega (arith, whole-bytes P W (P .l) (P .k - P .t))
+
+-- −q/4 fits 32 bits.
+pub quarter-fits : (P : Params) → WellFormed P → SFits w32 (pos 0 -ℤ pos (modulus P / 4))
+quarter-fits P W =
+    let most : 2 ^ P .k ≤ 2 ^ 16 = pow-mono (W .word) in
+    rw (+ℤ-idl (negℤ (pos (modulus P / 4)))) (fits-abs w32 (negℤ (pos (modulus P / 4))) (rw (natAbs-neg (pos (modulus P / 4))) (omega arith)))

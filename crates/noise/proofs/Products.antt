@@ -17,7 +17,7 @@ use Rattle.ring.specs.Coefficients.{Summable, withSignedProduct}
 use Rattle.ring.proofs.Integers.{natAbs-add, natAbs-neg, +ℤ-left-comm}
 use Rattle.ring.proofs.Sums.{natAbs-sum}
 use Rattle.ring.proofs.Ring.{mul-ext, natAbs-mul-poly}
-use Rattle.ring.proofs.Sizes.{largest-le, le-largest}
+use Rattle.ring.proofs.Sizes.{largest-le, le-largest, largest-zeros}
 
 -- acc with the first i products of two vectors added.
 abbrev pub partial : ℕ → List ℤ → (ℕ → Poly) → (ℕ → Poly) → ℕ → List ℤ
@@ -107,3 +107,10 @@ pub rest-size : (n : ℕ) (x acc : List ℤ) {ys : List ℤ} → ys ≡ tabulate
 rest-size n x acc e =
     rw e (largest-table n (largest x + largest acc) (minus (ofInts x) (ofInts acc))
     (λ k h. omega (arith, natAbs-add (ofInts x k) (negℤ (ofInts acc k)), natAbs-neg (ofInts acc k), le-largest x k, le-largest acc k)))
+
+-- Products added to zeros.
+pub errors-size : (l n : ℕ) (F S : ℕ → Poly) {zeros acc : List ℤ} → zeros ≡ replicate n (pos 0) → l * n ≤ 1536
+    → ((j : ℕ) → Sized n 256 (F j)) → ((j : ℕ) → Sized n 64 (S j)) → acc ≡ partial n zeros F S l → largest acc ≤ 25165824
+errors-size l n F S {zeros} {acc} ez vector hF hS e =
+    let none : largest zeros ≡ 0 = ap largest ez ∙ largest-zeros n in
+    rw e (omega (arith, whole-size l n zeros F S vector hF hS))

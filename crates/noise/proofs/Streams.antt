@@ -11,7 +11,8 @@ use lib.Pow.{pow-pos}
 use lib.Seq.{take-at, take-add, drop-at, drop-drop}
 use Rattle.hash.specs.Lists.{tabulate}
 use Rattle.hash.specs.Shake.{shake, xorInto}
-use Rattle.hash.proofs.Parts.{patched}
+use Rattle.hash.proofs.Entries.{length-tabulate}
+use Rattle.hash.proofs.Parts.{patched, length-patched, take-rest}
 use Rattle.hash.proofs.Laws.{length-shake}
 use Rattle.bits.specs.Bits.{pack}
 use Rattle.bits.proofs.Filling.{tabulate-ext, tabulate-constant}
@@ -28,6 +29,7 @@ use Rattle.kindi.specs.Noise.{keyNoise, noise, noises}
 use Rattle.kindi.proofs.Padding.{length-masked}
 use Rattle.kindi.proofs.Strings.{coefficient-packed}
 use Rattle.pke.proofs.Masks.{masked-is}
+use Rattle.pke.proofs.Joining.{then-next}
 use Rattle.pke.proofs.Assembly.{low-there, length-stream, stream-below}
 use Rattle.noise.specs.Rooms.{valueOf}
 use Rattle.noise.specs.Terms.{keyNoiseIn, noiseIn, noisesFrom}
@@ -36,6 +38,12 @@ use Rattle.noise.proofs.Products.{ofInts-table}
 -- The stream of the coins with the masked message in the mask's place.
 abbrev pub maskedStream : Params → List ℕ → List ℕ → List ℕ
 maskedStream P coins message = patched (lowLength P) (paddedLength P) (masked P coins message) (coinsStream P coins)
+
+-- It is as long as the stream.
+pub length-masked-stream : (P : Params) (coins message : List ℕ) → length (maskedStream P coins message) ≡ coinsStreamLength P
+length-masked-stream P coins message =
+    length-patched (lowLength P) (paddedLength P) (masked P coins message) (coinsStream P coins) (length-masked P coins message) (omega (arith, length-stream P coins))
+    ∙ length-stream P coins
 
 -- What `masked_stream` leaves.
 pub masked-made : (P : Params) (coins message : List ℕ) (a k : ℕ) {N : ℕ} {S ys : List ℕ} → a ≡ lowLength P → k ≡ paddedLength P → N ≡ coinsStreamLength P
@@ -135,3 +143,48 @@ noise-made n D M e {zeros} {errors} {acc} x h ez ee ea =
     let sum : ofInts errors x ≡ M x = at errors (plus (ofInts zeros) M) ee ∙ ap (λ (z : ℤ). z +ℤ M x) none ∙ +ℤ-idl (M x) in
     let rest : ofInts acc x ≡ e x -ℤ M x = at acc (minus (ofInts (tabulate n e)) (ofInts errors)) ea ∙ ap₂ _-ℤ_ (ofInts-table n e x h) sum in
     ap (λ (z : ℤ). z +ℤ D x) rest ∙ +ℤ-comm (e x -ℤ M x) (D x) ∙ sym (+ℤ-assoc (D x) (e x) (negℤ (M x)))
+
+-- What `accumulate` leaves is the noise of the streams.
+pub accumulated : (P : Params) (b coins secrets stream : List ℕ) (a k h : ℕ) {zeros errors x rest acc : List ℤ}
+    → a ≡ lowLength P → k ≡ paddedLength P → h ≡ highLength P → zeros ≡ replicate (P .n) (pos 0)
+    → errors ≡ tabulate (P .n) (plus (ofInts zeros) (dot (P .l) (P .n) (smallIn P (take (a + k - a) (drop a stream))) (smallIn P secrets)))
+    → x ≡ tabulate (P .n) (smallIn P (take (a + k - a) (drop a stream)) (P .l))
+    → rest ≡ tabulate (length errors) (minus (ofInts x) (ofInts errors))
+    → acc ≡ tabulate (P .n) (plus (ofInts rest) (dot (P .l) (P .n) (keyNoiseIn P stream secrets b) (ephemeralBy P coins
+    (take (length stream - (a + k)) (drop (a + k) stream)) (take (length stream - (a + k + h)) (drop (a + k + h) stream)))))
+    → acc ≡ tabulate (P .n) (noiseIn P b coins secrets stream)
+unfolding noiseIn
+accumulated P b coins secrets stream a k h {zeros} {errors} {x} {rest} {acc} ea ek eh ez ee ex er e =
+    let n : ℕ = P .n in
+    let L : ℕ = lowLength P in
+    let K : ℕ = paddedLength P in
+    let mid : List ℕ = take (a + k - a) (drop a stream) in
+    let high : List ℕ = take (length stream - (a + k)) (drop (a + k) stream) in
+    let last : List ℕ = take (length stream - (a + k + h)) (drop (a + k + h) stream) in
+    let of : List ℕ → List ℕ → List ℕ → List ℤ
+    = λ m g s. tabulate n (minus (plus (dot (P .l) n (keyNoiseIn P stream secrets b) (ephemeralBy P coins g s)) (smallIn P m (P .l))) (dot (P .l) n (smallIn P m) (smallIn P secrets))) in
+    let long : length errors ≡ n = ap length ee ∙ length-tabulate n _ in
+    let less : rest ≡ tabulate n (minus (ofInts (tabulate n (smallIn P mid (P .l)))) (ofInts errors))
+    = er ∙ ap₂ (λ (m : ℕ) (l : List ℤ). tabulate m (minus (ofInts l) (ofInts errors))) long ex in
+    let both : a + k ≡ L + K = ap₂ _+_ ea ek in
+    e ∙ tabulate-ext n _ _ (λ y l.
+    noise-made n (dot (P .l) n (keyNoiseIn P stream secrets b) (ephemeralBy P coins high last)) (dot (P .l) n (smallIn P mid) (smallIn P secrets)) (smallIn P mid (P .l)) y l ez ee less)
+    ∙ ap₂ (λ (m g : List ℕ). of m g last) (ap₂ (λ (i j : ℕ). take i (drop j stream)) (add-sub-cancel-left a k ∙ ek) ea) (take-rest (a + k) stream ∙ ap (λ (i : ℕ). drop i stream) both)
+    ∙ ap (of (take K (drop L stream)) (drop (L + K) stream)) (take-rest (a + k + h) stream ∙ ap (λ (i : ℕ). drop i stream) (ap₂ _+_ both eh))
+
+-- The streams one after the other.
+pub streams-split : (P : Params) (b coins streams : List ℕ) {s : ℕ} → s ≡ secretsLength P
+    → tabulate (P .n) (noiseIn P b coins (take s streams) (take (length streams - s) (drop s streams))) ≡ noisesFrom P b coins streams
+unfolding noisesFrom
+streams-split P b coins streams {s} e =
+    ap₂ (λ (g z : List ℕ). tabulate (P .n) (noiseIn P b coins g z)) (ap (λ (i : ℕ). take i streams) e) (take-rest s streams ∙ ap (λ (i : ℕ). drop i streams) e)
+
+-- They are there once both parts of the work area are written.
+pub streams-written : (P : Params) (γ coins message work : List ℕ) {s m : ℕ} {first second : List ℕ} → s ≡ secretsLength P → m ≡ coinsStreamLength P → s + m ≤ length work
+    → first ≡ shake (P .rate) γ (length (take s work)) → second ≡ maskedStream P coins message
+    → take (s + m) (patched s (s + m - s) second (first ++ drop s work)) ≡ shake (P .rate) γ (secretsLength P) ++ maskedStream P coins message
+streams-written P γ coins message work {s} {m} {first} {second} es em room e1 e2 =
+    let long1 : length (take s work) ≡ s = simp length-take (omega arith) in
+    let size1 : length first ≡ s = ap length e1 ∙ length-shake (P .rate) γ (length (take s work)) ∙ long1 in
+    let size2 : length second ≡ m = ap length e2 ∙ length-masked-stream P coins message ∙ sym em in
+    then-next s m work first second size1 size2 room ∙ ap₂ _++_ (e1 ∙ ap (shake (P .rate) γ) (long1 ∙ es)) e2

@@ -1,11 +1,11 @@
 -- Laws of values and integers that are tables of a polynomial's coefficients. Assumes nothing.
 use mathlib.Core.Path.{_≡_, refl, sym, ap, ap₂, _∙_}
-use mathlib.Core.List.{List}
-use Prim.Native.Nat.{ℕ, _+_, _-_, _*_, _%_, _^_, _≤_, _<_, suc-le-suc, zero-le}
-use native.Mathlib.Nat.{lt-of-lt-of-le}
+use mathlib.Core.List.{List, _∷_}
+use Prim.Native.Nat.{ℕ, zero, suc, _+_, _-_, _*_, _%_, _^_, _≤_, _<_, suc-le-suc, zero-le}
+use native.Mathlib.Nat.{not-suc-le-zero, le-of-suc-le-suc}
 use native.Mathlib.Omega.{arith}
 use lib.IntN.{pos, _+ℤ_, _-ℤ_}
-use lib.ListN.{length, getD, take, length-take}
+use lib.ListN.{length, getD, take, replicate, length-take}
 use Rattle.hash.specs.Lists.{tabulate}
 use Rattle.hash.proofs.Entries.{tabulate-at, length-tabulate}
 use Rattle.bits.specs.Bits.{Below, lowBits}
@@ -59,3 +59,9 @@ combined-table P n f g h {w} {r} {low} ew er el =
     ∙ tabulate-ext n _ _ (λ k l.
     ap₂ (λ (a b : ℕ). (centred (2 ^ (P .t - 1)) a +ℤ centred (P .p) b) -ℤ pos (getD low k 0)) (at w f ew k l) (at r g er k l)
     ∙ ap (λ (v : ℕ). (centred (2 ^ (P .t - 1)) (f k) +ℤ centred (P .p) (g k)) -ℤ pos v) (at low h el k l))
+
+-- The first n of m equal entries.
+pub take-same : {A : Type 0} (n m : ℕ) (x : A) → n ≤ m → take n (replicate m x) ≡ replicate n x
+take-same zero m x h = refl
+take-same (suc n) zero x h = absurd (not-suc-le-zero h)
+take-same {A} (suc n) (suc m) x h = ap (λ (l : List A). x ∷ l) (take-same n m x (le-of-suc-le-suc h))

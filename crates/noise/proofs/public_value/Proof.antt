@@ -1,122 +1,134 @@
+-- `noise::public_value` meets its contract.
+-- Assumes nothing.
+use mathlib.Core.Path.{_≡_, sym, ap, ap₂, _∙_}
+use mathlib.Core.List.{List, _++_}
+use Prim.Native.Nat.{ℕ, _+_, _-_, _≤_}
+use native.Mathlib.Omega.{arith}
 use borrow.Author.Needs.{needs}
+use denote.Ref.{now}
+use lib.ListN.{length, take, drop, length-take}
+use Rattle.hash.proofs.Parts.{patched}
+use Rattle.kindi.specs.Params.{lengthOf}
+use Rattle.kindi.specs.Keys.{publicPart, matrixSeed, secretSeed}
+use Rattle.kindi.specs.Answers.{same}
+use Rattle.pke.proofs.Made.{keyStreams, streams-made, streams-long}
+use Rattle.noise.specs.Terms.{droppedBits}
+use Rattle.noise.proofs.Agreeing.{value-made, agrees-is}
+use Rattle.noise.proofs.Streams.{matrix-seed-part, secret-seed-part}
 use Rattle.noise.proofs.public_value.Statement.{statement}
 use Rattle.noise.proofs.public_value.Tie as tie
-use Rattle.noise.proofs.public_value.Reads as reads
-use Rattle.noise.proofs.public_value.Lts as lts
-use Rattle.hash.proofs.shake.Reads as shake-reads
-use Rattle.noise.proofs.agreement.agree.Reads as agree-reads
-use Rattle.pke.proofs.keygen.public_polynomials.Reads as public-polynomials-reads
-use Rattle.pke.proofs.lengths.matrix.Reads as matrix-reads
-use Rattle.pke.proofs.lengths.secrets.Reads as secrets-reads
-use Rattle.pke.proofs.lengths.stored.Reads as stored-reads
 
--- src/lib.rt:33:9
+-- The streams of μ and γ, once both are written.
+streams : (c : tie.After-shake2) → take (c .before .before .before .before .before .before .before .before .before .before .before .before .matrix .result + c .before .before .before .before .before .before .before .before .before .before .before .secrets .result) (patched (c .before .before .before .before .before .before .before .before .before .before .before .before .matrix .result) (c .before .before .before .before .before .before .before .before .before .before .before .before .matrix .result + c .before .before .before .before .before .before .before .before .before .before .before .secrets .result - c .before .before .before .before .before .before .before .before .before .before .before .before .matrix .result) (c .shake2 .last .1 .1 .0) (c .before .before .before .before .before .shake .last .1 .1 .0 ++ drop (c .before .before .before .before .before .before .before .before .before .before .before .before .matrix .result) (now (c .before .before .before .before .before .before .before .before .before .before .before .before .before .before .before .before .args .work))))
+    ≡ keyStreams (c .before .before .before .before .before .before .before .before .before .before .before .before .before .before .before .before .args .p) (matrixSeed (c .before .before .before .before .before .before .before .before .before .before .before .before .before .before .before .before .args .p) (publicPart (c .before .before .before .before .before .before .before .before .before .before .before .before .before .before .before .before .args .p) (now (c .before .before .before .before .before .before .before .before .before .before .before .before .before .before .before .before .args .sk)))) (secretSeed (c .before .before .before .before .before .before .before .before .before .before .before .before .before .before .before .before .args .p) (now (c .before .before .before .before .before .before .before .before .before .before .before .before .before .before .before .before .args .sk)))
+streams c =
+    let p = c .before .before .before .before .before .before .before .before .before .before .before .before .before .before .before .before .args .p in
+    let sk = now (c .before .before .before .before .before .before .before .before .before .before .before .before .before .before .before .before .args .sk) in
+    let pre = c .before .before .before .before .before .before .before .before .before .before .before .before .before .before .before .before .pre in
+    let m = c .before .before .before .before .before .before .before .before .before .before .before .before .matrix .ensures .0 in
+    let s = c .before .before .before .before .before .before .before .before .before .before .before .secrets .ensures .0 in
+    let at = c .before .before .before .before .before .before .before .before .before .before .stored .ensures .0 in
+    let room : c .before .before .before .before .before .before .before .before .before .before .before .before .matrix .result + c .before .before .before .before .before .before .before .before .before .before .before .secrets .result ≤ length (now (c .before .before .before .before .before .before .before .before .before .before .before .before .before .before .before .before .args .work)) = omega (arith, m, s, pre .work-long) in
+    streams-made p (now (c .before .before .before .before .before .before .before .before .before .before .before .before .before .before .before .before .args .work)) _ _ m s room (c .before .before .before .before .before .shake .ensures) (c .shake2 .ensures)
+    ∙ ap₂ (keyStreams p) (matrix-seed-part p sk (pre .secret-long) at) (secret-seed-part p sk at)
+
 matrix-requires : tie.Need-matrix-requires
 matrix-requires c κs = search needs
 
--- src/lib.rt:34:25
 secrets-requires : tie.Need-secrets-requires
 secrets-requires c κs = search needs
 
--- src/lib.rt:34:16
 add-need : tie.Need-add-need
 add-need c = search needs
 
--- src/lib.rt:35:9
 stored-requires : tie.Need-stored-requires
 stored-requires c κs = search needs
 
--- src/lib.rt:36:18
 add-public : tie.Need-add-public
 add-public c = search needs
 
--- src/lib.rt:37:15
 add-end : tie.Need-add-end
 add-end c = search needs
 
--- src/lib.rt:38:25
 sub-shake : tie.Need-sub-shake
 sub-shake c = search needs
 
--- src/lib.rt:38:25
 part-shake-start : tie.Need-part-shake-start
 part-shake-start c = search needs
 
--- src/lib.rt:38:25
 part-shake-end : tie.Need-part-shake-end
 part-shake-end c = search needs
 
--- src/lib.rt:38:46
 slice-relend-prefix-shake : tie.Need-slice-relend-prefix-shake
 slice-relend-prefix-shake c = search needs
 
--- src/lib.rt:38:46
 slice-aggregate-shake : tie.Need-slice-aggregate-shake
-slice-aggregate-shake c = ?
+slice-aggregate-shake c = simp length-take (omega (arith, c .before .before .before .before .before .before .matrix .ensures .0, c .before .before .before .before .before .before .before .before .before .before .pre .work-long))
 
--- src/lib.rt:38:5
 shake-requires : tie.Need-shake-requires
 shake-requires c κs = search needs
 
--- src/lib.rt:39:25
 sub-shake-2 : tie.Need-sub-shake-2
 sub-shake-2 c = search needs
 
--- src/lib.rt:39:25
 part-shake-start-2 : tie.Need-part-shake-start-2
 part-shake-start-2 c = search needs
 
--- src/lib.rt:39:25
 part-shake-end-2 : tie.Need-part-shake-end-2
 part-shake-end-2 c = search needs
 
--- src/lib.rt:39:43
 sub-shake-3 : tie.Need-sub-shake-3
 sub-shake-3 c = search needs
 
--- src/lib.rt:39:43
 part-shake-start-3 : tie.Need-part-shake-start-3
 part-shake-start-3 c = search needs
 
--- src/lib.rt:39:43
 part-shake-end-3 : tie.Need-part-shake-end-3
 part-shake-end-3 c = search needs
 
--- src/lib.rt:39:5
 shake-requires-2 : tie.Need-shake-requires-2
 shake-requires-2 c κs = search needs
 
--- src/lib.rt:40:30
 slice-reshare-prefix-public-polynomials : tie.Need-slice-reshare-prefix-public-polynomials
 slice-reshare-prefix-public-polynomials c = search needs
 
--- src/lib.rt:40:30
 slice-aggregate-public-polynomials : tie.Need-slice-aggregate-public-polynomials
-slice-aggregate-public-polynomials c = ?
+slice-aggregate-public-polynomials c =
+    let p = c .before .before .before .before .before .before .before .before .before .before .before .before .before .before .before .before .before .before .before .args .p in
+    sym (ap length (streams (c .before .before .before)) ∙ streams-long p _ _ ∙ sym (ap₂ _+_ (c .before .before .before .before .before .before .before .before .before .before .before .before .before .before .before .matrix .ensures .0) (c .before .before .before .before .before .before .before .before .before .before .before .before .before .before .secrets .ensures .0)))
 
--- src/lib.rt:40:5
 public-polynomials-requires : tie.Need-public-polynomials-requires
-public-polynomials-requires c κs = ?
+public-polynomials-requires c κs =
+    let p = c .before .before .before .before .before .before .before .before .before .before .before .before .before .before .before .before .before .before .before .before .args .p in
+    let pre = c .before .before .before .before .before .before .before .before .before .before .before .before .before .before .before .before .before .before .before .before .pre in
+    let whole : p .k - 0 ≡ p .k = omega arith in
+    (pre .well, omega (arith, pre .well .quarters), ap length (streams (c .before .before .before .before)) ∙ streams-long p _ _, pre .value-long ∙ ap (lengthOf p (p .l)) (sym whole))
 
--- src/lib.rt:41:28
 slice-aggregate-agree : tie.Need-slice-aggregate-agree
-slice-aggregate-agree c = ?
+slice-aggregate-agree c = simp length-take (omega (arith, c .before .before .before .before .before .before .before .before .before .before .before .before .before .before .before .before .before .before .before .stored .ensures .0, c .before .before .before .before .before .before .before .before .before .before .before .before .before .before .before .before .before .before .before .before .before .before .before .before .before .pre .secret-long))
 
--- src/lib.rt:41:5
 agree-requires : tie.Need-agree-requires
-agree-requires c κs = ?
+agree-requires c κs =
+    let pre = c .before .before .before .before .before .before .before .before .before .before .before .before .before .before .before .before .before .before .before .before .before .before .before .before .before .pre in
+    record {
+      well = pre .well;
+      value-long = c .before .before .before .before .public-polynomials .kept .1 .1 .1 .0 ∙ pre .value-long;
+      stored-long = simp length-take (omega (arith, c .before .before .before .before .before .before .before .before .before .before .before .before .before .before .before .before .before .before .before .stored .ensures .0, pre .secret-long));
+    }
 
--- src/lib.rt:29:1
 same-length : tie.Need-same-length
 same-length c = search needs
 
--- src/lib.rt:29:1
 same-length-2 : tie.Need-same-length-2
 same-length-2 c = search needs
 
--- src/lib.rt:29:1
 returns : tie.Need-returns
-returns c = ?
+returns c =
+    let p = c .before .before .before .before .before .before .before .before .before .before .before .before .before .before .before .before .before .before .before .before .before .before .before .before .before .before .args .p in
+    let sk = now (c .before .before .before .before .before .before .before .before .before .before .before .before .before .before .before .before .before .before .before .before .before .before .before .before .before .before .args .sk) in
+    let pre = c .before .before .before .before .before .before .before .before .before .before .before .before .before .before .before .before .before .before .before .before .before .before .before .before .before .before .pre in
+    let value = value-made p sk _ (streams (c .before .before .before .before .before .before .before .before .before .before)) (c .before .before .before .before .before .public-polynomials .ensures) in
+    (c .agree .ensures ∙ ap (λ (b : List ℕ). same (take (c .before .before .before .before .before .before .before .before .before .before .before .before .before .before .before .before .before .before .before .before .stored .result) sk) (droppedBits p b)) value ∙ agrees-is p (pre .well) sk (pre .secret-long) (c .before .before .before .before .before .before .before .before .before .before .before .before .before .before .before .before .before .before .before .before .stored .ensures .0), value)
 
 pub public-value-spec : {M : Type 1} → statement M
 public-value-spec =
