@@ -29,8 +29,7 @@ use Rattle.kindi.proofs.Strings.{coefficient-packed, whole-bytes}
 use Rattle.kindi.proofs.Padding.{length-mask}
 use Rattle.pke.specs.Layout.{cipherFrom}
 use Rattle.pke.proofs.Assembly.{streams-cipher}
-use Rattle.pke.proofs.Amounts.{part-length}
-use Rattle.pke.proofs.Joining.{pack-joined, first-same, then-next}
+use Rattle.pke.proofs.Joining.{pack-joined}
 use Rattle.pke.proofs.Masks.{drop-past}
 use Rattle.decryption.specs.Opened.{maskCipher, leftPoly, leftOver, opened, OpenExit}
 use Rattle.decryption.proofs.Left.{length-left}
@@ -59,19 +58,6 @@ lowBits-joined : (w m : ℕ) (f : ℕ → List ℕ) → lowBits w (joined m f) �
 unfolding joined lowBits
 lowBits-joined w zero f = refl
 lowBits-joined w (suc m) f = lowBits-append w (joined m f) (f m) ∙ ap (λ (l : List ℕ). l ++ lowBits w (f m)) (lowBits-joined w m f)
-
--- Two streams in a slice, one after the other.
-pub two-streams : (r : ℕ) (work μ γ : List ℕ) {m s a b : ℕ} {first second : List ℕ} → m ≡ a → s ≡ b → m + s ≤ length work
-    → first ≡ shake r μ (length (take m work)) → second ≡ shake r γ (length (take (m + s - m) (drop m (first ++ drop m work))))
-    → take (m + s) (patched m (m + s - m) second (first ++ drop m work)) ≡ shake r μ a ++ shake r γ b
-two-streams r work μ γ {m} {s} {a} {b} {first} {second} em es room e1 e2 =
-    let long1 : length (take m work) ≡ m = simp length-take (omega arith) in
-    let first-long : length first ≡ m = ap length e1 ∙ length-shake r μ (length (take m work)) ∙ long1 in
-    let both : length (first ++ drop m work) ≡ length work = first-same m first work (first-long ∙ sym long1) in
-    let long2 : length (take (m + s - m) (drop m (first ++ drop m work))) ≡ s = part-length m s (first ++ drop m work) (rw both room) in
-    let second-long : length second ≡ s = ap length e2 ∙ length-shake r γ _ ∙ long2 in
-    then-next m s work first second first-long second-long room
-    ∙ ap₂ _++_ (e1 ∙ ap (shake r μ) (long1 ∙ em)) (e2 ∙ ap (shake r γ) (long2 ∙ es))
 
 -- ---- the encryption
 

@@ -9,6 +9,8 @@ use lib.ListN.{length, take, drop, length-take, length-drop, length-append, drop
 use lib.Seq.{take-at, drop-at, drop-drop}
 use lib.Pow.{pow-pos}
 use Rattle.hash.specs.Lists.{value, digits}
+use Rattle.hash.specs.Shake.{shake}
+use Rattle.hash.proofs.Laws.{length-shake}
 use Rattle.hash.proofs.Parts.{patched, length-patched, take-patched, patched-rest, take-rest}
 use Rattle.bits.specs.Bits.{Below, pack}
 use Rattle.bits.proofs.Digits.{pack-append}
@@ -58,6 +60,19 @@ then-next a k xs ys zs e l h =
     let room : a + k ≤ length (ys ++ drop a xs) = simp (length-append, length-drop, e) (omega arith) in
     ap (λ (j : ℕ). take (a + k) (patched a j zs (ys ++ drop a xs))) (add-sub-cancel-left a k) ∙ take-patched a k zs (ys ++ drop a xs) l room
     ∙ ap (λ (t : List ℕ). t ++ zs) (take-at ys (drop a xs) a e)
+
+-- Two streams in a slice, one after the other.
+pub two-streams : (r : ℕ) (work μ γ : List ℕ) {m s a b : ℕ} {first second : List ℕ} → m ≡ a → s ≡ b → m + s ≤ length work
+    → first ≡ shake r μ (length (take m work)) → second ≡ shake r γ (length (take (m + s - m) (drop m (first ++ drop m work))))
+    → take (m + s) (patched m (m + s - m) second (first ++ drop m work)) ≡ shake r μ a ++ shake r γ b
+two-streams r work μ γ {m} {s} {a} {b} {first} {second} em es room e1 e2 =
+    let long1 : length (take m work) ≡ m = simp length-take (omega arith) in
+    let first-long : length first ≡ m = ap length e1 ∙ length-shake r μ (length (take m work)) ∙ long1 in
+    let both : length (first ++ drop m work) ≡ length work = first-same m first work (first-long ∙ sym long1) in
+    let long2 : length (take (m + s - m) (drop m (first ++ drop m work))) ≡ s = part-length m s (first ++ drop m work) (rw both room) in
+    let second-long : length second ≡ s = ap length e2 ∙ length-shake r γ _ ∙ long2 in
+    then-next m s work first second first-long second-long room
+    ∙ ap₂ _++_ (e1 ∙ ap (shake r μ) (long1 ∙ em)) (e2 ∙ ap (shake r γ) (long2 ∙ es))
 
 -- ---- parts one after another
 

@@ -26,10 +26,10 @@ use Rattle.kindi.specs.Keys.{compress, joined, publicBy, public, publicKey, sec
 use Rattle.kindi.proofs.Strings.{length-joined, length-pack, whole-bytes}
 use Rattle.pke.specs.Vectors.{vector, sumPart}
 use Rattle.pke.specs.Layout.{storedFrom}
-use Rattle.pke.proofs.Amounts.{length-add, length-le, fills, part-length}
+use Rattle.pke.proofs.Amounts.{length-add, length-le, fills}
 use Rattle.pke.proofs.Reading.{small-vector, plain-vector, vector-cong, coefficient-drop}
 use Rattle.pke.proofs.Sums.{sum-low}
-use Rattle.pke.proofs.Joining.{pack-joined, first-same, then-rest, then-next}
+use Rattle.pke.proofs.Joining.{pack-joined, two-streams, then-rest, then-next}
 
 -- ---- compressed values
 
@@ -166,14 +166,7 @@ pub streams-made : (P : Params) (work μ γ : List ℕ) {m s : ℕ} {first secon
     → first ≡ shake (P .rate) μ (length (take m work))
     → second ≡ shake (P .rate) γ (length (take (m + s - m) (drop m (first ++ drop m work))))
     → take (m + s) (patched m (m + s - m) second (first ++ drop m work)) ≡ keyStreams P μ γ
-streams-made P work μ γ {m} {s} {first} {second} em es room e1 e2 =
-    let long1 : length (take m work) ≡ m = simp length-take (omega arith) in
-    let first-long : length first ≡ m = ap length e1 ∙ length-shake (P .rate) μ (length (take m work)) ∙ long1 in
-    let both : length (first ++ drop m work) ≡ length work = first-same m first work (first-long ∙ sym long1) in
-    let long2 : length (take (m + s - m) (drop m (first ++ drop m work))) ≡ s = part-length m s (first ++ drop m work) (rw both room) in
-    let second-long : length second ≡ s = ap length e2 ∙ length-shake (P .rate) γ _ ∙ long2 in
-    then-next m s work first second first-long second-long room
-    ∙ ap₂ _++_ (e1 ∙ ap (shake (P .rate) μ) (long1 ∙ em)) (e2 ∙ ap (shake (P .rate) γ) (long2 ∙ es))
+streams-made P work μ γ em es room e1 e2 = two-streams (P .rate) work μ γ em es room e1 e2
 
 -- The polynomials of these streams are those of b.
 pub stored-of : (P : Params) (t : ℕ) (μ γ streams : List ℕ) → streams ≡ keyStreams P μ γ

@@ -1,6 +1,7 @@
 -- `decryption::encrypt_mask` meets its contract.
 -- Assumes nothing.
-use Rattle.decryption.proofs.Masked.{two-streams, streams-long, mask-cipher}
+use Rattle.decryption.proofs.Masked.{streams-long, mask-cipher}
+use Rattle.pke.proofs.Joining.{two-streams}
 use Rattle.hash.proofs.Parts.{patched, take-rest}
 use Rattle.hash.specs.Shake.{shake}
 use Rattle.pke.specs.Layout.{cipherFrom}
