@@ -14,7 +14,8 @@
  *     The pointer may be NULL where the length is 0; otherwise that many bytes are there to read, and
  *     to write where the slice is an output or the work area.
  *   - The buffers of one call do not overlap, inputs included.
- *   - A call writes its output slices and its work area, and nothing else of the caller's.
+ *   - A call writes its output slices, its work area and the values that it returns through pointers, and
+ *     nothing else of the caller's. Such a pointer is not NULL.
  */
 #ifndef KINDI_H
 #define KINDI_H
@@ -68,29 +69,42 @@ void kindi_shake256(const uint8_t *input, size_t input_len, uint8_t *output, siz
 /* A shared key. */
 #define KINDI_KEY_LEN(set) KINDI_BY_SET(set, 32u, 64u, 64u, 64u)
 
-/* The longest message that one ciphertext holds; the shortest is empty. */
+/* The longest message that one ciphertext holds; the shortest is empty. A decrypted message has this room. */
 #define KINDI_MESSAGE_MAX_LEN(set) KINDI_BY_SET(set, 383u, 383u, 575u, 511u)
 
 /* The least work area of each call. */
 #define KINDI_KEYGEN_WORK_LEN(set) KINDI_BY_SET(set, 4608u, 3840u, 4352u, 8256u)
 #define KINDI_ENCRYPT_WORK_LEN(set) KINDI_BY_SET(set, 4864u, 4160u, 4608u, 8512u)
+#define KINDI_DECRYPT_WORK_LEN(set) KINDI_BY_SET(set, 4864u, 4160u, 4608u, 8512u)
 #define KINDI_ENCAPS_WORK_LEN(set) KINDI_BY_SET(set, 4864u, 4160u, 4608u, 8512u)
+#define KINDI_DECAPS_WORK_LEN(set) KINDI_BY_SET(set, 4864u, 4160u, 4608u, 8512u)
+#define KINDI_NOISE_WORK_LEN(set) KINDI_BY_SET(set, 5440u, 4672u, 5376u, 9280u)
+#define KINDI_CHOOSE_WORK_LEN(set) KINDI_BY_SET(set, 5440u, 4672u, 5376u, 9280u)
+
+/* The most coins that kindi_choose takes. */
+#define KINDI_CHOOSE_MAX_COINS 8u
 
 /*
  * What the calls below return: 0 for success, otherwise the number of a refusal. A call makes its checks
  * in the order of these numbers, so where several things are wrong the lowest number is returned.
  *
- * A refusal leaves every output as it was. The work area is scratch memory that the caller lends, with
- * any content and at any address. One that is long enough for the call is all zeros to its very end
- * after every call, refused or not, so no secret stays in it; only KINDI_NO_SUCH_SET leaves it as it
- * was. One that is too short is left as it was. Nothing is allocated.
+ * A refusal leaves every output slice as it was, and a value that is returned through a pointer is then 0.
+ * The work area is scratch memory that the caller lends, with any content and at any address. One that
+ * is long enough for the call is all zeros to its very end after every call, refused or not, so no secret
+ * stays in it; only KINDI_NO_SUCH_SET leaves it as it was. One that is too short is left as it was.
+ * Nothing is allocated.
  */
 enum kindi_status {
     KINDI_OK = 0,
     KINDI_NO_SUCH_SET = 1,      /* the set's number is not 1 to 4 */
-    KINDI_WRONG_INPUT_LEN = 2,  /* a seed, coins or a key has not the length of its set */
+    KINDI_WRONG_INPUT_LEN = 2,  /* a seed, coins, a key or a ciphertext has not the length of its set */
     KINDI_MESSAGE_TOO_LONG = 3, /* a message has more than KINDI_MESSAGE_MAX_LEN bytes */
-    KINDI_WRONG_OUTPUT_LEN = 4  /* an output has not its exact length, or the work area is too short */
+    KINDI_WRONG_OUTPUT_LEN = 4, /* an output has not its exact length, or the work area is too short */
+    KINDI_ERROR_TOO_LARGE = 5,  /* no encryption to this key makes the ciphertext: an error is out of range */
+    KINDI_WRONG_PADDING = 6,    /* what was encrypted is no padded message */
+    KINDI_WRONG_DIGEST = 7,     /* what was encrypted is not what kindi_encaps encrypts */
+    KINDI_WRONG_PUBLIC_KEY = 8, /* the secret key holds a public key that its seeds mu and gamma do not give */
+    KINDI_NONE_CLEAR = 9        /* none of the coins to choose from is clear */
 };
 
 /*
@@ -135,6 +149,30 @@ uint32_t kindi_encrypt(uint32_t set, const uint8_t *public_key, size_t public_ke
     uint8_t *ciphertext, size_t ciphertext_len, uint8_t *work, size_t work_len);
 
 /*
+ * Decrypts a message.
+ *
+ * The answer is coins and a message only where encrypting this message with these coins to the public
+ * key in the secret key gives this very ciphertext. What was encrypted comes back where it is clear (see
+ * kindi_noise) and the key pair is one of kindi_keygen. A ciphertext that was altered on its way is mostly
+ * refused, but an alteration that keeps its errors small gives another message: where that matters,
+ * share a key by kindi_encaps and authenticate the message with it. Whoever sends ciphertexts should not
+ * learn which refusal they met.
+ *
+ *   secret_key    KINDI_SECRET_KEY_LEN bytes
+ *   ciphertext    KINDI_CIPHERTEXT_LEN bytes
+ *   coins         output, KINDI_COINS_LEN bytes: the coins of the encryption. Keep them secret
+ *   message       output, KINDI_MESSAGE_MAX_LEN bytes: the message, then zeros
+ *   message_len   output, the length of the message; 0 after a refusal
+ *   work          KINDI_DECRYPT_WORK_LEN bytes or more
+ *
+ * Returns KINDI_OK, KINDI_NO_SUCH_SET, KINDI_WRONG_INPUT_LEN, KINDI_WRONG_OUTPUT_LEN,
+ * KINDI_ERROR_TOO_LARGE or KINDI_WRONG_PADDING.
+ */
+uint32_t kindi_decrypt(uint32_t set, const uint8_t *secret_key, size_t secret_key_len,
+    const uint8_t *ciphertext, size_t ciphertext_len, uint8_t *coins, size_t coins_len, uint8_t *message,
+    size_t message_room, size_t *message_len, uint8_t *work, size_t work_len);
+
+/*
  * Makes a shared key, and the ciphertext that takes it to the owner of a public key.
  *
  * The coins are fresh, uniformly random and secret bytes for each shared key, drawn by the caller and
@@ -152,6 +190,65 @@ uint32_t kindi_encrypt(uint32_t set, const uint8_t *public_key, size_t public_ke
 uint32_t kindi_encaps(uint32_t set, const uint8_t *public_key, size_t public_key_len,
     const uint8_t *coins, size_t coins_len, uint8_t *key, size_t key_len, uint8_t *ciphertext,
     size_t ciphertext_len, uint8_t *work, size_t work_len);
+
+/*
+ * Takes a shared key out of its ciphertext.
+ *
+ * The answer is a key only where kindi_encaps of the ciphertext's coins to the public key in the secret
+ * key gives this key and this very ciphertext; so a ciphertext that was altered is refused, and so is one
+ * of kindi_encrypt. Whoever sends ciphertexts should not learn which refusal they met.
+ *
+ *   secret_key   KINDI_SECRET_KEY_LEN bytes
+ *   ciphertext   KINDI_CIPHERTEXT_LEN bytes
+ *   key          output, KINDI_KEY_LEN bytes: the shared key. Keep it secret
+ *   work         KINDI_DECAPS_WORK_LEN bytes or more
+ *
+ * Returns KINDI_OK, KINDI_NO_SUCH_SET, KINDI_WRONG_INPUT_LEN, KINDI_WRONG_OUTPUT_LEN,
+ * KINDI_ERROR_TOO_LARGE or KINDI_WRONG_DIGEST.
+ */
+uint32_t kindi_decaps(uint32_t set, const uint8_t *secret_key, size_t secret_key_len,
+    const uint8_t *ciphertext, size_t ciphertext_len, uint8_t *key, size_t key_len, uint8_t *work,
+    size_t work_len);
+
+/*
+ * Measures the noise of an encryption to one's own key pair: what is added to the coins on their way,
+ * and has to be small for them to come back.
+ *
+ * The coins and the message are clear where every coefficient of the noise is strictly between -q/4 and
+ * q/4. What is clear comes back when its ciphertext is decrypted, and no two clear pairs share a
+ * ciphertext. The noise depends on the secret key: tell nobody the largest value.
+ *
+ *   secret_key   KINDI_SECRET_KEY_LEN bytes, of kindi_keygen
+ *   coins        KINDI_COINS_LEN bytes
+ *   message      0 to KINDI_MESSAGE_MAX_LEN bytes
+ *   clear        output, 1 where the coins and the message are clear, else 0; 0 after a refusal
+ *   largest      output, the largest absolute value of the noise; 0 after a refusal
+ *   work         KINDI_NOISE_WORK_LEN bytes or more
+ *
+ * Returns KINDI_OK, KINDI_NO_SUCH_SET, KINDI_WRONG_INPUT_LEN, KINDI_MESSAGE_TOO_LONG,
+ * KINDI_WRONG_OUTPUT_LEN or KINDI_WRONG_PUBLIC_KEY.
+ */
+uint32_t kindi_noise(uint32_t set, const uint8_t *secret_key, size_t secret_key_len,
+    const uint8_t *coins, size_t coins_len, const uint8_t *message, size_t message_len, uint32_t *clear,
+    uint32_t *largest, uint8_t *work, size_t work_len);
+
+/*
+ * Chooses coins that are clear with a message, for an encryption to one's own key pair.
+ *
+ *   secret_key   KINDI_SECRET_KEY_LEN bytes, of kindi_keygen
+ *   message      0 to KINDI_MESSAGE_MAX_LEN bytes
+ *   coins_list   1 to KINDI_CHOOSE_MAX_COINS coins of KINDI_COINS_LEN bytes, one after another; another
+ *                length is KINDI_WRONG_INPUT_LEN
+ *   place        output, the place in the list, from 0, of some coins that are clear; 0 after a refusal.
+ *                Where several are clear, which of them it is may change from one release to another
+ *   work         KINDI_CHOOSE_WORK_LEN bytes or more
+ *
+ * Returns KINDI_OK, KINDI_NO_SUCH_SET, KINDI_WRONG_INPUT_LEN, KINDI_MESSAGE_TOO_LONG,
+ * KINDI_WRONG_OUTPUT_LEN, KINDI_WRONG_PUBLIC_KEY or KINDI_NONE_CLEAR.
+ */
+uint32_t kindi_choose(uint32_t set, const uint8_t *secret_key, size_t secret_key_len,
+    const uint8_t *message, size_t message_len, const uint8_t *coins_list, size_t coins_list_len,
+    uint32_t *place, uint8_t *work, size_t work_len);
 
 #ifdef __cplusplus
 }

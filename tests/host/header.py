@@ -24,14 +24,13 @@ LENGTHS = {
     "KINDI_CIPHERTEXT_LEN": lambda s: s.ciphertext,
     "KINDI_KEY_LEN": lambda s: kindi.length(s, "key"),
     "KINDI_MESSAGE_MAX_LEN": lambda s: s.message,
-    "KINDI_KEYGEN_WORK_LEN": kindi.CALLS["keygen"].work,
-    "KINDI_ENCRYPT_WORK_LEN": kindi.CALLS["encrypt"].work,
-    "KINDI_ENCAPS_WORK_LEN": kindi.CALLS["encaps"].work,
+    **{f"KINDI_{name.upper()}_WORK_LEN": this.work for name, this in kindi.CALLS.items()},
 }
 
 # In the order of their numbers, from 0.
 STATUSES = ("KINDI_OK", "KINDI_NO_SUCH_SET", "KINDI_WRONG_INPUT_LEN", "KINDI_MESSAGE_TOO_LONG",
-            "KINDI_WRONG_OUTPUT_LEN")
+            "KINDI_WRONG_OUTPUT_LEN", "KINDI_ERROR_TOO_LARGE", "KINDI_WRONG_PADDING", "KINDI_WRONG_DIGEST",
+            "KINDI_WRONG_PUBLIC_KEY", "KINDI_NONE_CLEAR")
 
 
 def defined_lengths():
@@ -55,6 +54,7 @@ def program():
         lines += [f"extern uint8_t a_{name.lower()}_{number}[{name}({number})];" for number in kindi.SETS]
     for number, name in enumerate(STATUSES):
         lines.append(f"typedef char {name.lower()}[{name} == {number} ? 1 : -1];")
+    lines += [f"#if KINDI_CHOOSE_MAX_COINS != {kindi.MOST_COINS}", "#error KINDI_CHOOSE_MAX_COINS", "#endif"]
     lines += ["int main(void)", "{", "    uint32_t status = 0, set;", "    size_t size = 0;", "    int number;",
               f"    for (set = 0; set < {len(NUMBERS)}; set++) {{", "        number = (int)set;"]
     for name in LENGTHS:

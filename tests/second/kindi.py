@@ -153,6 +153,7 @@ def bits_of(data):
     return ring.unpack(1, 8 * len(data), data)
 
 
+@functools.lru_cache(maxsize=32)
 def coins_stream(s, coins):
     """w, the mask, and s_1 to s_l from the coins."""
     parts = cut(s.run(coins, sum(s.coins_parts)), *s.coins_parts)
@@ -181,6 +182,7 @@ def drop_low_bits(s, poly):
     return [c // 2**s.t for c in poly]
 
 
+@functools.lru_cache(maxsize=32)
 def make_public_key(s, mu, gamma):
     return string(s.k - s.t, [drop_low_bits(s, b) for b in public_value(s, mu, gamma)]) + mu
 
@@ -217,9 +219,11 @@ def errors_of(s, padded, mask):
     return centred(s.p, polynomials(s, s.small, xor(padded, mask)))
 
 
-def without_errors(s, public_key, w, secrets):
+@functools.lru_cache(maxsize=32)
+def without_errors(s, public_key, coins):
     """C_1 to C_l, then D, before their errors are added."""
     stored, mu = split_public_key(s, public_key)
+    w, _, secrets = coins_stream(s, coins)
     p_values = [[2**s.t * c + d for c, d in zip(poly, low)] for poly, low in zip(stored, w, strict=True)]
     p_values[0][0] += s.g
     columns = zip(*matrix(s, mu))
@@ -227,11 +231,12 @@ def without_errors(s, public_key, w, secrets):
 
 
 def encrypt_padded(s, public_key, coins, padded):
-    w, mask, secrets = coins_stream(s, coins)
-    sums = map(ring.add, without_errors(s, public_key, w, secrets), errors_of(s, padded, mask))
+    errors = errors_of(s, padded, coins_stream(s, coins)[1])
+    sums = map(ring.add, without_errors(s, public_key, coins), errors)
     return string(s.k, sums)
 
 
+@functools.lru_cache(maxsize=8)
 def difference_value(s, secret_key, ciphertext):
     """V = D - sum of C_j r_j, in 0 to q - 1."""
     *c, d = polynomials(s, s.k, ciphertext)
@@ -274,10 +279,9 @@ def shifted_errors(q, p, errors):
 def decrypt_padded(s, secret_key, ciphertext):
     """The recovered coins and the padded message."""
     coins = recovered_coins(s, secret_key, ciphertext)
-    w, mask, secrets = coins_stream(s, coins)
-    rest = without_errors(s, split_secret_key(s, secret_key)[0], w, secrets)
+    rest = without_errors(s, split_secret_key(s, secret_key)[0], coins)
     u = shifted_errors(s.q, s.p, map(ring.subtract, polynomials(s, s.k, ciphertext), rest))
-    return coins, xor(string(s.small, u), mask)
+    return coins, xor(string(s.small, u), coins_stream(s, coins)[1])
 
 
 def digest(s, coins):
@@ -290,6 +294,7 @@ def shared_key(s, coins, ciphertext):
 
 # Noise
 
+@functools.lru_cache(maxsize=32)
 def noise_of(s, mu, gamma, coins, message):
     """The noise, over the integers modulo X^n + 1."""
     r, r_prime = key_secrets(s, gamma)
@@ -357,29 +362,35 @@ def choose(s, secret_key, message, coins_list):
 
 @dataclass(frozen=True)
 class Call:
-    """A C call: its slices in the order of its arguments, what it returns besides the status, and the
-    length of its work area."""
+    """A C call: the length of its work area, its slices in the order of its arguments, and what it
+    returns besides the status."""
     make: Callable
+    work: Callable
     inputs: tuple
     outputs: tuple = ()
     values: tuple = ()
-    work: Callable = lambda s: 0
+
+
+def keygen_work(s):
+    return s.matrix_stream + s.gamma_stream
 
 
 def encrypt_work(s):
     return s.matrix_stream + sum(s.coins_parts)
 
 
-# The calls without a length of a work area are not in the library yet.
+def noise_work(s):
+    return keygen_work(s) + sum(s.coins_parts)
+
+
 CALLS = {
-    "keygen": Call(keygen, ("mu", "gamma", "z"), ("public_key", "secret_key"),
-                   work=lambda s: s.matrix_stream + s.gamma_stream),
-    "encrypt": Call(encrypt, ("public_key", "coins", "message"), ("ciphertext",), work=encrypt_work),
-    "decrypt": Call(decrypt, ("secret_key", "ciphertext"), ("coins", "message"), ("message_len",)),
-    "encaps": Call(encaps, ("public_key", "coins"), ("key", "ciphertext"), work=encrypt_work),
-    "decaps": Call(decaps, ("secret_key", "ciphertext"), ("key",)),
-    "noise": Call(noise, ("secret_key", "coins", "message"), (), ("clear", "largest")),
-    "choose": Call(choose, ("secret_key", "message", "coins_list"), (), ("place",)),
+    "keygen": Call(keygen, keygen_work, ("mu", "gamma", "z"), ("public_key", "secret_key")),
+    "encrypt": Call(encrypt, encrypt_work, ("public_key", "coins", "message"), ("ciphertext",)),
+    "decrypt": Call(decrypt, encrypt_work, ("secret_key", "ciphertext"), ("coins", "message"), ("message_len",)),
+    "encaps": Call(encaps, encrypt_work, ("public_key", "coins"), ("key", "ciphertext")),
+    "decaps": Call(decaps, encrypt_work, ("secret_key", "ciphertext"), ("key",)),
+    "noise": Call(noise, noise_work, ("secret_key", "coins", "message"), (), ("clear", "largest")),
+    "choose": Call(choose, noise_work, ("secret_key", "message", "coins_list"), (), ("place",)),
 }
 
 MOST_COINS = 8
@@ -444,8 +455,13 @@ TABLE = {
     4: (64, 64, 2368, 2496, 3328, 512),
 }
 
-# The lengths of work areas that docs/WORK-AREAS.md lists.
-WORK_TABLE = {1: (4608, 4864, 4864), 2: (3840, 4160, 4160), 3: (4352, 4608, 4608), 4: (8256, 8512, 8512)}
+# The lengths of work areas that docs/WORK-AREAS.md lists, set by set; the paper's bound on them.
+WORK_TABLE = {
+    ("keygen",): (4608, 3840, 4352, 8256),
+    ("encrypt", "decrypt", "encaps", "decaps"): (4864, 4160, 4608, 8512),
+    ("noise", "choose"): (5440, 4672, 5376, 9280),
+}
+MOST_WORK = 65536
 
 # Sizes at which noise that is not clear is common; coins and seeds differ in length.
 PRACTICE = [
@@ -477,7 +493,9 @@ def check_lengths():
     for number, s in SETS.items():
         found = (s.seed, s.coins, s.public_key, s.secret_key, s.ciphertext, s.padded)
         assert found == TABLE[number], (number, found)
-        assert tuple(CALLS[name].work(s) for name in ("keygen", "encrypt", "encaps")) == WORK_TABLE[number], number
+    work = {name: lengths for names, lengths in WORK_TABLE.items() for name in names}
+    assert work == {name: tuple(map(this.work, SETS.values())) for name, this in CALLS.items()}
+    assert max(map(max, work.values())) <= MOST_WORK
 
 
 def check_examples():
