@@ -4,6 +4,7 @@
 #include <string.h>
 
 #include "keccak_ref.h"
+#include "ring_ref.h"
 
 /* The greatest of each figure over the sets. */
 #define MOST_N 512
@@ -11,6 +12,7 @@
 #define MOST_COINS 64
 #define MOST_STREAM 7488
 #define MOST_PADDED 576
+#define MOST_PUBLIC_KEY 2368
 #define MOST_CIPHERTEXT 3328
 
 /* How far past the end of a bit string its last coefficients are read. */
@@ -236,7 +238,7 @@ static const uint8_t *unpack(const uint8_t *src, uint32_t w, int16_t centre, int
     return src;
 }
 
-/* Writes n coefficients below 2^w, w from 8 to 15, and returns the place after them. */
+/* Writes n coefficients below 2^w, w up to 15, and returns the place after them. */
 static uint8_t *pack(uint8_t *dst, uint32_t w, const uint16_t *src, size_t n)
 {
     size_t i;
@@ -247,101 +249,171 @@ static uint8_t *pack(uint8_t *dst, uint32_t w, const uint16_t *src, size_t n)
         uint64_t high = (uint64_t)src[i + 4] | (uint64_t)src[i + 5] << w | (uint64_t)src[i + 6] << 2 * w
             | (uint64_t)src[i + 7] << 3 * w;
 
-        store(dst, low | high << 4 * w, 8);
-        store(dst + 8, high >> (64 - 4 * w), w - 8);
+        if (w < 8) {
+            store(dst, low | high << 4 * w, w);
+        } else {
+            store(dst, low | high << 4 * w, 8);
+            store(dst + 8, high >> (64 - 4 * w), w - 8);
+        }
     }
     return dst;
+}
+
+/* The bytes of some polynomials of w bits a coefficient. */
+static size_t size_of(const struct set *s, size_t count, uint32_t w)
+{
+    return count * s->n * w / 8;
+}
+
+/* Where gamma is in a secret key, and mu before it: the public key's length. */
+static size_t public_size(const struct set *s)
+{
+    return size_of(s, s->l, s->k - s->t) + s->seed;
+}
+
+static size_t padded_size(const struct set *s)
+{
+    return size_of(s, s->l + 1, s->width_2p);
+}
+
+static size_t ciphertext_size(const struct set *s)
+{
+    return size_of(s, s->l + 1, s->k);
 }
 
 /* The matrix's bit string. */
 static void expand_matrix(const struct set *s, const uint8_t *mu, uint8_t *stream)
 {
-    s->shake(mu, s->seed, stream, s->l * s->l * s->n * s->k / 8);
+    s->shake(mu, s->seed, stream, size_of(s, s->l * s->l, s->k));
 }
 
-void ref_keygen(uint32_t set, const uint8_t *mu, const uint8_t *gamma, const uint8_t *z, uint8_t *public_key,
-    uint8_t *secret_key)
+/* The first count of r_1 to r_l, r'_1 to r'_l. */
+static void expand_gamma(const struct set *s, const uint8_t *gamma, size_t count, int16_t (*secrets)[MOST_N])
 {
-    const struct set *s = &sets[set - 1];
-    uint8_t stream[MOST_STREAM + SLACK], *end = public_key;
+    uint8_t stream[MOST_STREAM + SLACK];
     const uint8_t *at = stream;
-    int16_t secret[MOST_L][MOST_N], f[MOST_N];
+    size_t i;
+
+    s->shake(gamma, s->seed, stream, size_of(s, count, s->width_2p));
+    for (i = 0; i < count; i++)
+        at = unpack(at, s->width_2p, s->p, secrets[i], s->n);
+}
+
+/* b_1 to b_l from mu, and r and r'. */
+static void public_value(const struct set *s, const uint8_t *mu, int16_t (*secrets)[MOST_N], uint16_t (*b)[MOST_N])
+{
+    uint8_t stream[MOST_STREAM + SLACK];
+    const uint8_t *at = stream;
+    int16_t f[MOST_N], *low = secrets[s->l];
     struct values r[MOST_L], a, sum;
-    uint16_t b[MOST_N];
     size_t i, j;
 
-    s->shake(gamma, s->seed, stream, 2 * s->l * s->n * s->width_2p / 8);
-    for (i = 0; i < s->l; i++) {
-        at = unpack(at, s->width_2p, s->p, f, s->n);
-        transform(f, s->n, &r[i]);
-    }
     for (i = 0; i < s->l; i++)
-        at = unpack(at, s->width_2p, s->p, secret[i], s->n);
-
+        transform(secrets[i], s->n, &r[i]);
     expand_matrix(s, mu, stream);
-    at = stream;
-    for (i = 0; i < s->l; i++) {
+    for (i = 0; i < s->l; i++, low += MOST_N) {
         memset(&sum, 0, sizeof sum);
         for (j = 0; j < s->l; j++) {
             at = unpack(at, s->k, 0, f, s->n);
             transform(f, s->n, &a);
             multiply_add(&sum, &a, &r[j], s->n);
         }
-        inverse(&sum, s->n, b);
+        inverse(&sum, s->n, b[i]);
         for (j = 0; j < s->n; j++)
-            b[j] = (uint16_t)(((uint32_t)(b[j] + secret[i][j]) & ((1u << s->k) - 1)) >> s->t);
-        end = pack(end, s->k - s->t, b, s->n);
+            b[i][j] = (uint16_t)((uint32_t)(b[i][j] + low[j]) & ((1u << s->k) - 1));
     }
-    memcpy(end, mu, s->seed);
-    end += s->seed;
-
-    memcpy(secret_key, public_key, (size_t)(end - public_key));
-    memcpy(secret_key + (end - public_key), gamma, s->seed);
-    memcpy(secret_key + (end - public_key) + s->seed, z, s->seed);
 }
 
-/* What the coins and the message of an encryption give. */
+/* The public key. */
+static void store_public(const struct set *s, uint16_t (*b)[MOST_N], const uint8_t *mu, uint8_t *public_key)
+{
+    uint16_t high[MOST_N];
+    size_t i, j;
+
+    for (i = 0; i < s->l; i++) {
+        for (j = 0; j < s->n; j++)
+            high[j] = (uint16_t)(b[i][j] >> s->t);
+        public_key = pack(public_key, s->k - s->t, high, s->n);
+    }
+    memcpy(public_key, mu, s->seed);
+}
+
+void ref_keygen(uint32_t set, const uint8_t *mu, const uint8_t *gamma, const uint8_t *z, uint8_t *public_key,
+    uint8_t *secret_key)
+{
+    const struct set *s = &sets[set - 1];
+    int16_t secrets[2 * MOST_L][MOST_N];
+    uint16_t b[MOST_L][MOST_N];
+
+    expand_gamma(s, gamma, 2 * s->l, secrets);
+    public_value(s, mu, secrets, b);
+    store_public(s, b, mu, public_key);
+    memcpy(secret_key, public_key, public_size(s));
+    memcpy(secret_key + public_size(s), gamma, s->seed);
+    memcpy(secret_key + public_size(s) + s->seed, z, s->seed);
+}
+
+/* What the coins of an encryption give. */
 struct parts {
-    struct values s[MOST_L];
-    int16_t w[MOST_L][MOST_N], e[MOST_L + 1][MOST_N];
+    int16_t w[MOST_L][MOST_N], s[MOST_L][MOST_N];
+    uint8_t mask[MOST_PADDED];
 };
 
-static void expand_coins(const struct set *s, const uint8_t *coins, const uint8_t *message, size_t message_len,
-    struct parts *parts)
+static void expand_coins(const struct set *s, const uint8_t *coins, struct parts *parts)
 {
-    uint8_t stream[MOST_STREAM + SLACK], padded[MOST_PADDED + SLACK] = { 0 };
-    size_t padded_len = (s->l + 1) * s->n * s->width_2p / 8, i;
-    const uint8_t *at = stream, *u = padded;
-    int16_t f[MOST_N], bits[MOST_N];
+    uint8_t stream[MOST_STREAM + SLACK];
+    const uint8_t *at = stream;
+    int16_t bits[MOST_N], *first = parts->s[0];
+    size_t i;
 
-    s->shake(coins, s->coins, stream,
-        s->l * s->n * s->t / 8 + padded_len + s->n * s->width_p / 8 + (s->l - 1) * s->n * s->width_2p / 8);
+    s->shake(coins, s->coins, stream, size_of(s, s->l, s->t) + padded_size(s) + size_of(s, 1, s->width_p)
+        + size_of(s, s->l - 1, s->width_2p));
     for (i = 0; i < s->l; i++)
         at = unpack(at, s->t, (int16_t)(1 << (s->t - 1)), parts->w[i], s->n);
-
-    if (message_len > 0)
-        memcpy(padded, message, message_len);
-    padded[message_len] = 1;
-    for (i = 0; i < padded_len; i++)
-        padded[i] ^= at[i];
-    at += padded_len;
-    for (i = 0; i < s->l + 1; i++)
-        u = unpack(u, s->width_2p, s->p, parts->e[i], s->n);
-
-    at = unpack(at, s->width_p, 0, f, s->n);
+    memcpy(parts->mask, at, padded_size(s));
+    at = unpack(at + padded_size(s), s->width_p, 0, first, s->n);
     for (i = 0; i < s->n; i++)
         bits[i] = coins[i / 8] >> (i % 8) & 1;
     for (i = 0; i < s->n; i++)
-        f[i] = (int16_t)(bits[i] + 2 * f[i] - s->p);
-    transform(f, s->n, &parts->s[0]);
-    for (i = 1; i < s->l; i++) {
-        at = unpack(at, s->width_2p, s->p, f, s->n);
-        transform(f, s->n, &parts->s[i]);
-    }
+        first[i] = (int16_t)(bits[i] + 2 * first[i] - s->p);
+    for (i = 1; i < s->l; i++)
+        at = unpack(at, s->width_2p, s->p, parts->s[i], s->n);
+}
+
+/* Exclusive or with the mask, to a padded message and back. */
+static void add_mask(const struct set *s, const struct parts *parts, uint8_t *padded)
+{
+    size_t i, count = padded_size(s);
+
+    for (i = 0; i < count; i++)
+        padded[i] ^= parts->mask[i];
+}
+
+/* The message, one byte 01, then zeros. */
+static void pad(const uint8_t *message, size_t message_len, uint8_t *padded)
+{
+    memset(padded, 0, MOST_PADDED);
+    if (message_len > 0)
+        memcpy(padded, message, message_len);
+    padded[message_len] = 1;
+}
+
+/* e_1 to e_(l+1). */
+static void errors(const struct set *s, const struct parts *parts, const uint8_t *message, size_t message_len,
+    int16_t (*e)[MOST_N])
+{
+    uint8_t padded[MOST_PADDED + SLACK];
+    const uint8_t *u = padded;
+    size_t i;
+
+    pad(message, message_len, padded);
+    add_mask(s, parts, padded);
+    for (i = 0; i < s->l + 1; i++)
+        u = unpack(u, s->width_2p, s->p, e[i], s->n);
 }
 
 /* Adds A_ij * s_i to sums[j] for every i and j. */
-static void add_matrix(const struct set *s, const uint8_t *mu, const struct parts *parts, struct values *sums)
+static void add_matrix(const struct set *s, const uint8_t *mu, const struct values *secrets, struct values *sums)
 {
     uint8_t stream[MOST_STREAM + SLACK];
     const uint8_t *at = stream;
@@ -354,13 +426,14 @@ static void add_matrix(const struct set *s, const uint8_t *mu, const struct part
         for (j = 0; j < s->l; j++) {
             at = unpack(at, s->k, 0, f, s->n);
             transform(f, s->n, &a);
-            multiply_add(&sums[j], &a, &parts->s[i], s->n);
+            multiply_add(&sums[j], &a, &secrets[i], s->n);
         }
     }
 }
 
 /* Adds P_i * s_i to sum for every i. */
-static const uint8_t *add_key(const struct set *s, const uint8_t *key, const struct parts *parts, struct values *sum)
+static const uint8_t *add_key(const struct set *s, const uint8_t *key, const struct parts *parts,
+    const struct values *secrets, struct values *sum)
 {
     int16_t f[MOST_N];
     struct values a;
@@ -373,43 +446,234 @@ static const uint8_t *add_key(const struct set *s, const uint8_t *key, const str
         if (i == 0)
             f[0] = (int16_t)(f[0] + (1 << (s->k - 1)));
         transform(f, s->n, &a);
-        multiply_add(sum, &a, &parts->s[i], s->n);
+        multiply_add(sum, &a, &secrets[i], s->n);
     }
     return key;
+}
+
+/* C_1 to C_l, then D, modulo 2^16, before their errors are added. */
+static void without_errors(const struct set *s, const uint8_t *public_key, const struct parts *parts,
+    uint16_t (*c)[MOST_N])
+{
+    struct values sums[MOST_L + 1], secrets[MOST_L];
+    const uint8_t *mu;
+    size_t i;
+
+    memset(sums, 0, sizeof sums);
+    for (i = 0; i < s->l; i++)
+        transform(parts->s[i], s->n, &secrets[i]);
+    mu = add_key(s, public_key, parts, secrets, &sums[s->l]);
+    add_matrix(s, mu, secrets, sums);
+    for (i = 0; i < s->l + 1; i++)
+        inverse(&sums[i], s->n, c[i]);
 }
 
 void ref_encrypt(uint32_t set, const uint8_t *public_key, const uint8_t *coins, const uint8_t *message,
     size_t message_len, uint8_t *ciphertext)
 {
     const struct set *s = &sets[set - 1];
-    struct values sums[MOST_L + 1];
+    int16_t e[MOST_L + 1][MOST_N];
+    uint16_t c[MOST_L + 1][MOST_N];
     struct parts parts;
-    uint16_t c[MOST_N];
-    const uint8_t *mu;
     size_t i, j;
 
-    memset(sums, 0, sizeof sums);
-    expand_coins(s, coins, message, message_len, &parts);
-    mu = add_key(s, public_key, &parts, &sums[s->l]);
-    add_matrix(s, mu, &parts, sums);
+    expand_coins(s, coins, &parts);
+    errors(s, &parts, message, message_len, e);
+    without_errors(s, public_key, &parts, c);
     for (i = 0; i < s->l + 1; i++) {
-        inverse(&sums[i], s->n, c);
         for (j = 0; j < s->n; j++)
-            c[j] = (uint16_t)((uint32_t)(c[j] + parts.e[i][j]) & ((1u << s->k) - 1));
-        ciphertext = pack(ciphertext, s->k, c, s->n);
+            c[i][j] = (uint16_t)((uint32_t)(c[i][j] + e[i][j]) & ((1u << s->k) - 1));
+        ciphertext = pack(ciphertext, s->k, c[i], s->n);
     }
+}
+
+/* The message of a shared key. */
+static void digest_of(const struct set *s, const uint8_t *coins, uint8_t *digest)
+{
+    uint8_t bytes[MOST_COINS + 1];
+
+    memcpy(bytes, coins, s->coins);
+    bytes[s->coins] = 4;
+    s->shake(bytes, s->coins + 1, digest, s->coins);
+}
+
+static void shared_key(const struct set *s, const uint8_t *coins, const uint8_t *ciphertext, uint8_t *key)
+{
+    uint8_t bytes[MOST_COINS + MOST_CIPHERTEXT];
+
+    memcpy(bytes, coins, s->coins);
+    memcpy(bytes + s->coins, ciphertext, ciphertext_size(s));
+    s->shake(bytes, s->coins + ciphertext_size(s), key, s->coins);
 }
 
 void ref_encaps(uint32_t set, const uint8_t *public_key, const uint8_t *coins, uint8_t *key, uint8_t *ciphertext)
 {
     const struct set *s = &sets[set - 1];
-    uint8_t bytes[MOST_COINS + MOST_CIPHERTEXT], digest[MOST_COINS];
-    size_t ciphertext_len = (s->l + 1) * s->n * s->k / 8;
+    uint8_t digest[MOST_COINS];
 
-    memcpy(bytes, coins, s->coins);
-    bytes[s->coins] = 4;
-    s->shake(bytes, s->coins + 1, digest, s->coins);
+    digest_of(s, coins, digest);
     ref_encrypt(set, public_key, coins, digest, s->coins, ciphertext);
-    memcpy(bytes + s->coins, ciphertext, ciphertext_len);
-    s->shake(bytes, s->coins + ciphertext_len, key, s->coins);
+    shared_key(s, coins, ciphertext, key);
+}
+
+/* The coins found by rounding, from C and D. */
+static void recover_coins(const struct set *s, const uint8_t *gamma, int16_t (*c)[MOST_N], uint8_t *coins)
+{
+    int16_t r[MOST_L][MOST_N];
+    struct values sum, x, y;
+    uint16_t product[MOST_N], bits[MOST_N];
+    size_t i;
+
+    expand_gamma(s, gamma, s->l, r);
+    memset(&sum, 0, sizeof sum);
+    for (i = 0; i < s->l; i++) {
+        transform(c[i], s->n, &x);
+        transform(r[i], s->n, &y);
+        multiply_add(&sum, &x, &y, s->n);
+    }
+    inverse(&sum, s->n, product);
+    for (i = 0; i < s->n; i++)
+        bits[i] = (uint32_t)(c[s->l][i] - product[i] + (1 << (s->k - 2))) >> (s->k - 1) & 1;
+    pack(coins, 1, bits, s->n);
+}
+
+/* The recovered coins and the padded message; whether every error is in its range. */
+static int open_padded(const struct set *s, const uint8_t *secret_key, const uint8_t *ciphertext, uint8_t *coins,
+    uint8_t *padded)
+{
+    uint8_t bytes[MOST_CIPHERTEXT + SLACK];
+    const uint8_t *at = bytes;
+    int16_t c[MOST_L + 1][MOST_N];
+    uint16_t rest[MOST_L + 1][MOST_N], any = 0;
+    uint8_t *u = padded;
+    struct parts parts;
+    size_t i, j;
+
+    memcpy(bytes, ciphertext, ciphertext_size(s));
+    for (i = 0; i < s->l + 1; i++)
+        at = unpack(at, s->k, 0, c[i], s->n);
+    recover_coins(s, secret_key + public_size(s), c, coins);
+    expand_coins(s, coins, &parts);
+    without_errors(s, secret_key, &parts, rest);
+    for (i = 0; i < s->l + 1; i++) {
+        for (j = 0; j < s->n; j++) {
+            rest[i][j] = (uint16_t)((uint32_t)(c[i][j] - rest[i][j] + s->p) & ((1u << s->k) - 1));
+            any |= rest[i][j];
+        }
+        u = pack(u, s->width_2p, rest[i], s->n);
+    }
+    add_mask(s, &parts, padded);
+    return any < 2 * s->p;
+}
+
+uint32_t ref_decrypt(uint32_t set, const uint8_t *secret_key, const uint8_t *ciphertext, uint8_t *coins,
+    uint8_t *message, size_t *message_len)
+{
+    const struct set *s = &sets[set - 1];
+    uint8_t found[MOST_COINS], padded[MOST_PADDED];
+    size_t end = padded_size(s);
+
+    *message_len = 0;
+    if (!open_padded(s, secret_key, ciphertext, found, padded))
+        return 5;
+    while (end > 0 && padded[end - 1] == 0)
+        end--;
+    if (end == 0 || padded[end - 1] != 1)
+        return 6;
+    memcpy(coins, found, s->coins);
+    padded[end - 1] = 0;
+    memcpy(message, padded, padded_size(s) - 1);
+    *message_len = end - 1;
+    return 0;
+}
+
+uint32_t ref_decaps(uint32_t set, const uint8_t *secret_key, const uint8_t *ciphertext, uint8_t *key)
+{
+    const struct set *s = &sets[set - 1];
+    uint8_t coins[MOST_COINS], digest[MOST_COINS], padded[MOST_PADDED], expected[MOST_PADDED];
+
+    if (!open_padded(s, secret_key, ciphertext, coins, padded))
+        return 5;
+    digest_of(s, coins, digest);
+    pad(digest, s->coins, expected);
+    if (memcmp(padded, expected, padded_size(s)) != 0)
+        return 7;
+    shared_key(s, coins, ciphertext, key);
+    return 0;
+}
+
+/* What the noise takes of a secret key: r_1 to r_l, r'_1 to r'_l, and b. */
+struct key_parts {
+    int16_t secrets[2 * MOST_L][MOST_N];
+    uint16_t b[MOST_L][MOST_N];
+};
+
+/* Whether the stored public key is what the seeds give. */
+static int open_key(const struct set *s, const uint8_t *secret_key, struct key_parts *key)
+{
+    const uint8_t *mu = secret_key + public_size(s) - s->seed;
+    uint8_t public_key[MOST_PUBLIC_KEY];
+
+    expand_gamma(s, mu + s->seed, 2 * s->l, key->secrets);
+    public_value(s, mu, key->secrets, key->b);
+    store_public(s, key->b, mu, public_key);
+    return memcmp(public_key, secret_key, public_size(s)) == 0;
+}
+
+/* Whether coins and a message are clear, and the largest absolute value of the noise. */
+static uint32_t measure(const struct set *s, const struct key_parts *key, const uint8_t *coins,
+    const uint8_t *message, size_t message_len, uint32_t *largest)
+{
+    int16_t e[MOST_L + 1][MOST_N], x[MOST_N];
+    int32_t noise[MOST_N], quarter = 1 << (s->k - 2);
+    struct parts parts;
+    size_t i, j;
+
+    expand_coins(s, coins, &parts);
+    errors(s, &parts, message, message_len, e);
+    for (j = 0; j < s->n; j++)
+        noise[j] = e[s->l][j];
+    for (i = 0; i < s->l; i++) {
+        for (j = 0; j < s->n; j++) {
+            x[j] = (int16_t)(parts.w[i][j] + key->secrets[s->l + i][j] - (key->b[i][j] & ((1 << s->t) - 1)));
+            e[i][j] = (int16_t)-e[i][j];
+        }
+        ref_signed_multiply_add(noise, x, parts.s[i], s->n);
+        ref_signed_multiply_add(noise, e[i], key->secrets[i], s->n);
+    }
+    return ref_sizes(noise, s->n, -quarter, quarter, largest);
+}
+
+uint32_t ref_noise(uint32_t set, const uint8_t *secret_key, const uint8_t *coins, const uint8_t *message,
+    size_t message_len, uint32_t *clear, uint32_t *largest)
+{
+    const struct set *s = &sets[set - 1];
+    struct key_parts key;
+
+    *clear = *largest = 0;
+    if (!open_key(s, secret_key, &key))
+        return 8;
+    *clear = measure(s, &key, coins, message, message_len, largest);
+    return 0;
+}
+
+uint32_t ref_choose(uint32_t set, const uint8_t *secret_key, const uint8_t *message, size_t message_len,
+    const uint8_t *coins_list, size_t count, uint32_t *place)
+{
+    const struct set *s = &sets[set - 1];
+    struct key_parts key;
+    uint32_t found = 0, largest;
+    size_t i;
+
+    *place = 0;
+    if (!open_key(s, secret_key, &key))
+        return 8;
+    /* All are measured, as the library does, so that the time does not tell which is clear. */
+    for (i = count; i-- > 0;) {
+        if (measure(s, &key, coins_list + i * s->coins, message, message_len, &largest)) {
+            *place = (uint32_t)i;
+            found = 1;
+        }
+    }
+    return found ? 0 : 9;
 }

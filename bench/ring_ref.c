@@ -1,5 +1,7 @@
 #include "ring_ref.h"
 
+#include <string.h>
+
 /* Adds the rows of four neighbouring coefficients; row has the other factor, shifted for the last. */
 static void add_rows(uint16_t *restrict acc, const uint16_t *restrict row, size_t n, const uint16_t *a)
 {
@@ -101,20 +103,28 @@ static void centre(uint32_t w, uint16_t p, const uint8_t *bytes, size_t size, in
         xs[i] = (int16_t)(values[i] - p);
 }
 
+void ref_signed_multiply_add(int32_t *acc, const int16_t *a, const int16_t *b, size_t n)
+{
+    int16_t row[2 * REF_MOST];
+    size_t i, k;
+
+    /* b and then -b, both from the last coefficient down: a part of n stands for each place. */
+    for (i = 0; i < n; i++) {
+        row[i] = b[n - 1 - i];
+        row[n + i] = (int16_t)-b[n - 1 - i];
+    }
+    for (k = 0; k < n; k++)
+        acc[k] += dot(a, row + n - 1 - k, n);
+}
+
 void ref_signed_product(uint32_t w, uint16_t p, const uint8_t *a, const uint8_t *b, size_t size, int32_t *product, size_t n)
 {
-    int16_t xs[REF_MOST], ys[REF_MOST], row[2 * REF_MOST];
-    size_t i, k;
+    int16_t xs[REF_MOST], ys[REF_MOST];
 
     centre(w, p, a, size, xs, n);
     centre(w, p, b, size, ys, n);
-    /* y and then -y, both from the last coefficient down: a part of n stands for each place. */
-    for (i = 0; i < n; i++) {
-        row[i] = ys[n - 1 - i];
-        row[n + i] = (int16_t)-ys[n - 1 - i];
-    }
-    for (k = 0; k < n; k++)
-        product[k] = dot(xs, row + n - 1 - k, n);
+    memset(product, 0, n * sizeof product[0]);
+    ref_signed_multiply_add(product, xs, ys, n);
 }
 
 uint32_t ref_sizes(const int32_t *xs, size_t n, int32_t low, int32_t high, uint32_t *most)

@@ -14,6 +14,9 @@
 /* acc + a·b modulo X^n + 1 and 2^16; n is a multiple of 4. */
 void ref_multiply_add(uint16_t *acc, const uint16_t *a, const uint16_t *b, size_t n);
 
+/* acc + a·b over the integers modulo X^n + 1; every sum fits 32 bits. */
+void ref_signed_multiply_add(int32_t *acc, const int16_t *a, const int16_t *b, size_t n);
+
 /* The product over the integers modulo X^n + 1 of two strings of n values of w bits, each less p. */
 void ref_signed_product(uint32_t w, uint16_t p, const uint8_t *a, const uint8_t *b, size_t size, int32_t *product, size_t n);
 

@@ -100,7 +100,7 @@ enum kindi_status {
     KINDI_WRONG_INPUT_LEN = 2,  /* a seed, coins, a key or a ciphertext has not the length of its set */
     KINDI_MESSAGE_TOO_LONG = 3, /* a message has more than KINDI_MESSAGE_MAX_LEN bytes */
     KINDI_WRONG_OUTPUT_LEN = 4, /* an output has not its exact length, or the work area is too short */
-    KINDI_ERROR_TOO_LARGE = 5,  /* no encryption to this key makes the ciphertext: an error is out of range */
+    KINDI_ERROR_TOO_LARGE = 5,  /* an error of the ciphertext is out of range: altered, of another key, not clear */
     KINDI_WRONG_PADDING = 6,    /* what was encrypted is no padded message */
     KINDI_WRONG_DIGEST = 7,     /* what was encrypted is not what kindi_encaps encrypts */
     KINDI_WRONG_PUBLIC_KEY = 8, /* the secret key holds a public key that its seeds mu and gamma do not give */

@@ -2,14 +2,14 @@
 """The refusals 1 to 4 of the scheme's calls: every slice one byte too short, right, and one too long,
 in every combination and set, so that where several are wrong the lowest number has to answer; lengths
 that are far off; and sets that there are none of. Each call's whole answer is the second
-implementation's: outputs untouched, the work area wiped or untouched."""
+implementation's: outputs untouched, values 0, the work area wiped or untouched. Contents are random, so
+that calls whose lengths are right answer by the refusals 5 and 8 where they may."""
 
 import itertools
 import random
-from collections import Counter
 
-from scheme import NAMES, compare, kindi, load
-from support import main
+from scheme import NAMES, compare, kindi, load, tally
+from support import main, spread
 
 SEED = 20180405
 
@@ -21,19 +21,27 @@ BESIDE = (-1, 0, 1)
 FAR = (-2, 2, 256, 65536)
 
 
+# How many coins may stand in a list, and the numbers beside.
+LISTS = range(kindi.MOST_COINS + 2)
+
+
+def right_length(s, key):
+    """The right length of a slice; of a message and of a list of coins, the greatest."""
+    return kindi.MOST_COINS * s.coins if key == "coins_list" else kindi.length(s, key)
+
+
 def right_lengths(name, s):
-    """The right length of each slice by name, with the work area's; of a message, the greatest."""
+    """The right length of each slice by name, with the work area's."""
     this = kindi.CALLS[name]
-    lengths = {key: kindi.length(s, key) for key in (*this.inputs, *this.outputs)}
-    return {**lengths, "work": this.work(s)}
+    return {**{key: right_length(s, key) for key in (*this.inputs, *this.outputs)}, "work": this.work(s)}
 
 
 class Refusals:
-    def __init__(self):
-        self.library = load()
-        self.rng = random.Random(SEED)
+    def __init__(self, library, name):
+        self.library = library
+        self.rng = random.Random(f"{SEED}, {name}")
         self.noise = self.rng.randbytes(2**17)
-        self.seen = Counter()
+        self.statuses = []
 
     def content(self, size):
         """Bytes that are not all the same, and not the same in each call."""
@@ -46,7 +54,7 @@ class Refusals:
         data = {key: self.content(size) for key, size in lengths.items()}
         status = compare(self.library, name, number, {key: data[key] for key in this.inputs},
                          {key: data[key] for key in this.outputs}, data["work"], self.rng)
-        self.seen[status] += 1
+        self.statuses.append(status)
 
     def combinations(self, name, number, s):
         """Every slice beside its right length, in every combination."""
@@ -59,7 +67,8 @@ class Refusals:
         right = right_lengths(name, s)
         for key, size in right.items():
             others = {right_lengths(name, other)[key] for other in kindi.SETS.values()}
-            for wrong in sorted({0, 1, *others, *(size + change for change in FAR)}):
+            lists = [count * s.coins + change for count in LISTS for change in BESIDE] if key == "coins_list" else []
+            for wrong in sorted({0, 1, *others, *(size + change for change in FAR), *lists} - {-1}):
                 self.one_call(name, number, {**right, key: wrong})
                 # A work area that is too short must not be written, whatever else is wrong.
                 self.one_call(name, number, {**right, key: wrong, "work": right["work"] - 1})
@@ -79,15 +88,18 @@ class Refusals:
 
 
 def test():
-    refusals = Refusals()
-    for name in NAMES:
+    library = load()
+
+    def one_name(name):
+        refusals = Refusals(library, name)
         for number in NO_SETS:
             refusals.no_sets(name, number)
         for number, s in kindi.SETS.items():
             refusals.single_lengths(name, number, s)
             refusals.combinations(name, number, s)
-    seen = ", ".join(f"{count} of status {status}" for status, count in sorted(refusals.seen.items()))
-    return f"{refusals.seen.total()} calls answer as the second implementation: {seen}"
+        return refusals.statuses
+
+    return tally(sum(spread(one_name, NAMES), []))
 
 
 main(test)

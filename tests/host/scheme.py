@@ -3,6 +3,7 @@ second implementation's."""
 
 import ctypes
 import sys
+from collections import Counter
 
 from support import Guarded, ROOT, check, load_library
 
@@ -10,8 +11,7 @@ sys.path.insert(0, str(ROOT / "tests"))
 
 from second import kindi  # noqa: E402
 
-# The calls that the library has.
-NAMES = ("keygen", "encrypt", "encaps")
+NAMES = tuple(kindi.CALLS)
 
 # What a call returns through a pointer, besides its status.
 VALUES = {"message_len": ctypes.c_size_t, "clear": ctypes.c_uint32, "largest": ctypes.c_uint32,
@@ -26,6 +26,13 @@ def load():
     for name in NAMES:
         getattr(library, f"kindi_{name}").restype = ctypes.c_uint32
     return library
+
+
+def tally(statuses):
+    """How many calls had each status, in words."""
+    counts = Counter(statuses)
+    listed = ", ".join(f"{count} of status {status}" for status, count in sorted(counts.items()))
+    return f"{counts.total()} calls of the scheme agree with the second implementation: {listed}"
 
 
 def describe(name, number, inputs, outputs, work):

@@ -1,20 +1,20 @@
 #!/usr/bin/env python3
-"""The scheme's calls beside the second implementation, on random seeds, coins, messages and public keys
-of every set, at lengths that mostly fit, at addresses of every remainder by 8.
+"""The scheme's calls beside the second implementation, on random seeds, coins, messages, keys and
+ciphertexts of every set, at lengths that mostly fit, at addresses of every remainder by 8.
 
 usage: scheme_random.py [SEED [CALLS]]
 """
 
-from collections import Counter
+import random
 
-from scheme import NAMES, compare, kindi, load
+from scheme import NAMES, compare, kindi, load, tally
 from support import main, repeat
 
 SEED = 20170918
 CALLS = 1500
 
-# The greatest work area that a caller is asked for.
-MOST_WORK = 65536
+# How many seeds key pairs are made of, so that the second implementation meets each often.
+SEEDS = 4
 
 
 def content(rng, size):
@@ -41,22 +41,59 @@ def work_length(rng, needed):
         return needed
     if part < 0.9:
         return needed + rng.choice((1, 2, 7, 8, 63, rng.randint(1, 5000)))
-    return rng.choice((needed - 1, needed - 1, rng.randrange(needed), 0, MOST_WORK))
+    return rng.choice((needed - 1, needed - 1, rng.randrange(needed), 0, kindi.MOST_WORK))
 
 
-def public_key(rng, s):
+def key_seed(rng, s):
+    return random.Random(rng.randrange(SEEDS)).randbytes(s.seed)
+
+
+def public_key(rng, s, _):
     """A made public key, or bytes that nobody made: an encryption answers for both."""
     if rng.random() < 0.5:
-        return kindi.make_public_key(s, rng.randbytes(s.seed), rng.randbytes(s.seed))
+        return kindi.make_public_key(s, key_seed(rng, s), key_seed(rng, s))
     return content(rng, s.public_key)
 
 
-def input_content(rng, s, key):
-    if key == "message":
-        return content(rng, message_length(rng, s))
-    if key == "public_key":
-        return public_key(rng, s)
-    return content(rng, kindi.length(s, key))
+def secret_key(rng, s, _):
+    """A made secret key mostly, or one whose bytes do not belong together."""
+    part = rng.random()
+    if part < 0.05:
+        return content(rng, s.secret_key)
+    mu, gamma = key_seed(rng, s), key_seed(rng, s)
+    public = kindi.make_public_key(s, mu, gamma) if part < 0.95 else content(rng, s.public_key)
+    return public + gamma + content(rng, s.seed)
+
+
+def ciphertext(rng, s, inputs):
+    """A message or a shared key that is encrypted to the secret key, at times altered; or any bytes."""
+    part = rng.random()
+    if part < 0.1:
+        return content(rng, s.ciphertext)
+    coins = content(rng, s.coins)
+    message = kindi.digest(s, coins) if part < 0.5 else content(rng, min(message_length(rng, s), s.message))
+    made = kindi.encrypt_padded(s, inputs["secret_key"][:s.public_key], coins, kindi.pad(s, message))
+    if part < 0.9:
+        return made
+    place = rng.randrange(len(made))
+    return made[:place] + bytes([made[place] ^ 1 << rng.randrange(8)]) + made[place + 1:]
+
+
+CONTENTS = {
+    "message": lambda rng, s, _: content(rng, message_length(rng, s)),
+    "public_key": public_key,
+    "secret_key": secret_key,
+    "ciphertext": ciphertext,
+    "coins_list": lambda rng, s, _: content(rng, rng.choice((1, 1, 2, 3, kindi.MOST_COINS)) * s.coins),
+}
+
+
+def input_contents(rng, s, this):
+    """The inputs of a call, which may depend on those before."""
+    inputs = {}
+    for key in this.inputs:
+        inputs[key] = CONTENTS[key](rng, s, inputs) if key in CONTENTS else content(rng, kindi.length(s, key))
+    return inputs
 
 
 def resized(rng, data):
@@ -70,10 +107,10 @@ def one_call(rng, library):
     """Makes one call; its status."""
     name, number = rng.choice(NAMES), rng.choice(list(kindi.SETS))
     this, s = kindi.CALLS[name], kindi.SETS[number]
-    inputs = {key: input_content(rng, s, key) for key in this.inputs}
+    inputs = input_contents(rng, s, this)
     outputs = {key: content(rng, kindi.length(s, key)) for key in this.outputs}
     for slices in (inputs, outputs):
-        if rng.random() < 0.04:
+        if slices and rng.random() < 0.04:
             key = rng.choice(list(slices))
             slices[key] = resized(rng, slices[key])
     if rng.random() < 0.02:
@@ -83,8 +120,7 @@ def one_call(rng, library):
 
 def test():
     seed, statuses = repeat(one_call, load(), SEED, CALLS)
-    seen = ", ".join(f"{count} of status {status}" for status, count in sorted(Counter(statuses).items()))
-    return f"{len(statuses)} calls of the scheme agree with the second implementation: {seen} (seed {seed})"
+    return f"{tally(statuses)} (seed {seed})"
 
 
 main(test)

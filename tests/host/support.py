@@ -1,9 +1,12 @@
 """What the host tests share: paths, running a compiler, the shared object, and guarded buffers."""
 
 import ctypes
+import multiprocessing
+import os
 import random
 import subprocess
 import sys
+from concurrent.futures import ProcessPoolExecutor
 from pathlib import Path
 
 ROOT = Path(__file__).resolve().parents[2]
@@ -107,19 +110,43 @@ class Guarded:
         return whole[self.before:end]
 
 
+def begin(job):
+    """Keeps the job of a process of spread."""
+    begin.job = job
+
+
+def run_one(item):
+    return begin.job(item)
+
+
+def spread(job, items):
+    """What a job gives for each item, in order; the items are shared out among the processors, each with
+    a process that begins as a copy of this one. A failure or a crash in one of them ends the test."""
+    fork = multiprocessing.get_context("fork")
+    with ProcessPoolExecutor(os.cpu_count(), fork, initializer=begin, initargs=(job,)) as pool:
+        return list(pool.map(run_one, items))
+
+
+# The random calls that one process makes at a time, from a seed of their own.
+AT_A_TIME = 50
+
+
 def repeat(one_call, library, seed, calls):
     """Makes random calls, as many and from the seed that the command line names, else those given: the
     seed, and what each call returned. A failure says which call it was."""
     given = [int(word) for word in sys.argv[1:3]]
     seed, calls = given + [seed, calls][len(given):]
-    rng, answers = random.Random(seed), []
-    for number in range(calls):
-        try:
-            answers.append(one_call(rng, library))
-        except Exception as error:
-            error.args = (f"seed {seed}, call {number}: {error}",)
-            raise
-    return seed, answers
+
+    def some(first):
+        rng, answers = random.Random(f"{seed}, from {first} on"), []
+        for number in range(first, min(first + AT_A_TIME, calls)):
+            try:
+                answers.append(one_call(rng, library))
+            except Exception as error:
+                raise Failure(f"seed {seed}, call {number}: {error}") from error
+        return answers
+
+    return seed, sum(spread(some, range(0, calls, AT_A_TIME)), [])
 
 
 def main(test):
