@@ -132,7 +132,8 @@ def ends_of_ranges(session):
         values = kindi.difference_value(s, session.secret_key, ciphertext)
         for place, end in itertools.product((0, 1, s.n // 2, s.n - 1), (s.q // 4, 3 * s.q // 4)):
             for value in (end - 1, end):
-                session.open(f"V at {place} is {value}", session.raised(ciphertext, (s.l, place, value - values[place])))
+                changed = session.raised(ciphertext, (s.l, place, value - values[place]))
+                session.open(f"V at {place} is {value}", changed)
 
 
 def paddings(session):

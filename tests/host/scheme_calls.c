@@ -1,8 +1,8 @@
 /*
  * Calls the scheme from C, as firmware does: every slice ends at a page that nobody may touch, so that a
  * read or a write past it is a crash, and then begins after one. In every set a call that fits succeeds
- * and gives the same twice, whatever was in the outputs and the work area; a message may be NULL. It names
- * each part as it starts, so that the last line says where a crash was.
+ * and gives the same twice, whatever was in the outputs and the work area; a message may be NULL; what is
+ * encrypted comes back. It names each part as it starts, so that the last line says where a crash was.
  */
 #define _DEFAULT_SOURCE
 
@@ -57,6 +57,17 @@ static uint8_t *filled(int which, size_t size, int at_end, unsigned turn)
     for (i = 0; i < size; i++)
         p[i] = (uint8_t)(turn + (unsigned)which * 31 + i * 167 + (i >> 8));
     return p;
+}
+
+/* Whether a slice has the content that filled gives it at turn 0. */
+static int has_content(int which, const uint8_t *p, size_t size)
+{
+    size_t i;
+
+    for (i = 0; i < size; i++)
+        if (p[i] != (uint8_t)((unsigned)which * 31 + i * 167 + (i >> 8)))
+            return 0;
+    return 1;
 }
 
 /* What was in the outputs and the work area differs by turn, and what is there after the call does not. */
@@ -121,12 +132,41 @@ static void encrypt_message(uint32_t set, int at_end, size_t message_len)
     }
 }
 
+/* The message that was encrypted comes back, with its coins. */
+static void decrypt_message(uint32_t set, int at_end, size_t expected_len)
+{
+    size_t secret_len = KINDI_SECRET_KEY_LEN(set), ciphertext_len = KINDI_CIPHERTEXT_LEN(set);
+    size_t coins_len = KINDI_COINS_LEN(set), room = KINDI_MESSAGE_MAX_LEN(set);
+    size_t work_len = KINDI_DECRYPT_WORK_LEN(set), i;
+    uint8_t *secret_key = slice(SECRET_KEY, secret_len, at_end);
+    uint8_t *ciphertext = slice(CIPHERTEXT, ciphertext_len, at_end);
+    unsigned turn;
+
+    for (turn = 0; turn < 2; turn++) {
+        uint8_t *coins = filled(COINS, coins_len, at_end, turn + 1);
+        uint8_t *message = filled(MESSAGE, room, at_end, turn + 1), *work = filled(WORK, work_len, at_end, turn + 1);
+        size_t message_len = room + 1;
+
+        succeeded(kindi_decrypt(set, secret_key, secret_len, ciphertext, ciphertext_len, coins, coins_len, message,
+            room, &message_len, work, work_len), work, work_len);
+        if (message_len != expected_len || !has_content(MESSAGE, message, message_len)
+            || !has_content(COINS, coins, coins_len))
+            fail("another message or other coins came back");
+        for (i = message_len; i < room; i++)
+            if (message[i] != 0)
+                fail("the message is not followed by zeros");
+    }
+}
+
 static void encrypt(uint32_t set, int at_end)
 {
-    encrypt_message(set, at_end, 0);
-    encrypt_message(set, at_end, 1);
-    encrypt_message(set, at_end, KINDI_MESSAGE_MAX_LEN(set) - 1);
-    encrypt_message(set, at_end, KINDI_MESSAGE_MAX_LEN(set));
+    size_t most = KINDI_MESSAGE_MAX_LEN(set), lengths[4], i;
+
+    lengths[0] = 0, lengths[1] = 1, lengths[2] = most - 1, lengths[3] = most;
+    for (i = 0; i < 4; i++) {
+        encrypt_message(set, at_end, lengths[i]);
+        decrypt_message(set, at_end, lengths[i]);
+    }
 }
 
 static void encaps(uint32_t set, int at_end)
@@ -149,15 +189,83 @@ static void encaps(uint32_t set, int at_end)
     }
 }
 
-/* Every slice NULL and empty: refused, and nothing is touched. */
+/* The shared key that encaps left in its room comes back. */
+static void decaps(uint32_t set, int at_end)
+{
+    static uint8_t made[MOST];
+    size_t secret_len = KINDI_SECRET_KEY_LEN(set), ciphertext_len = KINDI_CIPHERTEXT_LEN(set);
+    size_t key_len = KINDI_KEY_LEN(set), work_len = KINDI_DECAPS_WORK_LEN(set);
+    uint8_t *secret_key = slice(SECRET_KEY, secret_len, at_end);
+    uint8_t *ciphertext = slice(CIPHERTEXT, ciphertext_len, at_end);
+    unsigned turn;
+
+    memcpy(made, slice(KEY, key_len, at_end), key_len);
+    for (turn = 0; turn < 2; turn++) {
+        uint8_t *key = filled(KEY, key_len, at_end, turn + 1), *work = filled(WORK, work_len, at_end, turn + 1);
+
+        succeeded(kindi_decaps(set, secret_key, secret_len, ciphertext, ciphertext_len, key, key_len, work, work_len),
+            work, work_len);
+        if (memcmp(key, made, key_len) != 0)
+            fail("another shared key came back");
+    }
+}
+
+static void noise(uint32_t set, int at_end)
+{
+    size_t secret_len = KINDI_SECRET_KEY_LEN(set), coins_len = KINDI_COINS_LEN(set);
+    size_t message_len = KINDI_MESSAGE_MAX_LEN(set), work_len = KINDI_NOISE_WORK_LEN(set);
+    uint8_t *secret_key = slice(SECRET_KEY, secret_len, at_end), *message = filled(MESSAGE, message_len, at_end, 0);
+    uint8_t *coins = filled(COINS, coins_len, at_end, 0);
+    uint32_t first = 0, turn;
+
+    for (turn = 0; turn < 2; turn++) {
+        uint8_t *work = filled(WORK, work_len, at_end, turn + 1);
+        uint32_t clear = 77777 + turn, largest = 77777 + turn;
+
+        succeeded(kindi_noise(set, secret_key, secret_len, coins, coins_len, message, message_len, &clear, &largest,
+            work, work_len), work, work_len);
+        if (clear != 1 || largest == 0 || (turn == 1 && largest != first))
+            fail("not clear, or the same call twice gave two answers");
+        first = largest;
+    }
+}
+
+/* From a list that is as long as it may be. */
+static void choose(uint32_t set, int at_end)
+{
+    size_t secret_len = KINDI_SECRET_KEY_LEN(set), list_len = KINDI_CHOOSE_MAX_COINS * KINDI_COINS_LEN(set);
+    size_t message_len = KINDI_MESSAGE_MAX_LEN(set), work_len = KINDI_CHOOSE_WORK_LEN(set);
+    uint8_t *secret_key = slice(SECRET_KEY, secret_len, at_end), *message = filled(MESSAGE, message_len, at_end, 0);
+    uint8_t *list = filled(COINS, list_len, at_end, 0);
+    uint32_t first = 0, turn;
+
+    for (turn = 0; turn < 2; turn++) {
+        uint8_t *work = filled(WORK, work_len, at_end, turn + 1);
+        uint32_t place = 77777 + turn;
+
+        succeeded(kindi_choose(set, secret_key, secret_len, message, message_len, list, list_len, &place, work,
+            work_len), work, work_len);
+        if (place >= KINDI_CHOOSE_MAX_COINS || (turn == 1 && place != first))
+            fail("no place of the list, or the same call twice gave two answers");
+        first = place;
+    }
+}
+
+/* Every slice NULL and empty: refused, and nothing is touched but the values, which are 0. */
 static void nulls(uint32_t set, int at_end)
 {
-    uint32_t wrong = KINDI_WRONG_INPUT_LEN;
+    uint32_t wrong = KINDI_WRONG_INPUT_LEN, clear = 1, largest = 1, place = 1;
+    size_t message_len = 1;
 
     (void)at_end;
     if (kindi_keygen(set, NULL, 0, NULL, 0, NULL, 0, NULL, 0, NULL, 0, NULL, 0) != wrong
         || kindi_encrypt(set, NULL, 0, NULL, 0, NULL, 0, NULL, 0, NULL, 0) != wrong
-        || kindi_encaps(set, NULL, 0, NULL, 0, NULL, 0, NULL, 0, NULL, 0) != wrong)
+        || kindi_decrypt(set, NULL, 0, NULL, 0, NULL, 0, NULL, 0, &message_len, NULL, 0) != wrong
+        || kindi_encaps(set, NULL, 0, NULL, 0, NULL, 0, NULL, 0, NULL, 0) != wrong
+        || kindi_decaps(set, NULL, 0, NULL, 0, NULL, 0, NULL, 0) != wrong
+        || kindi_noise(set, NULL, 0, NULL, 0, NULL, 0, &clear, &largest, NULL, 0) != wrong
+        || kindi_choose(set, NULL, 0, NULL, 0, NULL, 0, &place, NULL, 0) != wrong
+        || message_len != 0 || clear != 0 || largest != 0 || place != 0)
         fail("empty slices are not refused as they should be");
 }
 
@@ -166,7 +274,8 @@ int main(void)
     static const struct part {
         const char *name;
         void (*run)(uint32_t set, int at_end);
-    } parts[] = { { "keygen", keygen }, { "encrypt", encrypt }, { "encaps", encaps }, { "all NULL", nulls } };
+    } parts[] = { { "keygen", keygen }, { "encrypt and decrypt", encrypt }, { "encaps", encaps }, { "decaps", decaps },
+        { "noise", noise }, { "choose", choose }, { "all NULL", nulls } };
     uint32_t set;
     int at_end;
     size_t p;
@@ -175,7 +284,7 @@ int main(void)
     make_rooms();
     for (set = 1; set <= SETS; set++) {
         for (at_end = 0; at_end < 2; at_end++) {
-            /* The public key that keygen leaves in its room is the one that is encrypted to. */
+            /* What a part leaves in its room is what the next one works with: keys, a ciphertext, a shared key. */
             for (p = 0; p < sizeof parts / sizeof parts[0]; p++) {
                 printf("set %lu: %s, slices at the %s of their pages\n", (unsigned long)set, parts[p].name,
                     at_end ? "end" : "start");
