@@ -7,40 +7,48 @@ from support import ROOT, check, main
 FOLDER = ROOT / "tests" / "vectors" / "known_answers"
 
 
+# What a part may leave out, since one above gave it out.
+KEPT = ("public_key", "secret_key", "ciphertext")
+
+
 def parts(path):
-    """Each part of a file: the call's name, and its slices by name."""
-    found, public_key = [], None
+    """Each part of a file: the call's name, and the text of its lines by name."""
+    found = []
     for line in path.read_text().splitlines():
         if line.startswith("["):
             found.append((line.strip("[]"), {}))
         elif line and not line.startswith("#"):
             name, equals, value = line.partition(" =")
             check(equals and found, f"{path.name}: a line of no kind: {line[:60]}")
-            found[-1][1][name] = bytes.fromhex(value)
-    for name, slices in found:
-        # An encryption is to the public key of the last keygen above it.
-        public_key = slices.setdefault("public_key", public_key)
-        yield name, slices
+            found[-1][1][name] = value
+    return found
 
 
-def one_part(library, number, name, slices, place):
-    this = kindi.CALLS[name]
-    check(set(slices) == {*this.inputs, *this.outputs}, f"set {number}, {place}: not the slices of {name}")
-    inputs = {key: slices[key] for key in this.inputs}
-    room = {key: b"\xa5" * len(slices[key]) for key in this.outputs}
-    found = invoke(library, name, number, inputs, room, b"\x5a" * this.work(kindi.SETS[number]))
-    check(found.status == 0, f"set {number}, {place}: status {found.status}")
-    check(not any(found.work), f"set {number}, {place}: the work area is not all zeros")
+def one_part(library, number, name, lines, above, what):
+    """Makes the call of one part; what it gives out."""
+    this, s = kindi.CALLS[name], kindi.SETS[number]
+    status = int(lines.get("status", 0))
+    inputs = {key: bytes.fromhex(lines[key]) if key in lines else above.get(key) for key in this.inputs}
+    told = {"status"} if status else {*this.outputs, *this.values}
+    check(set(lines) - set(this.inputs) == told and None not in inputs.values(), f"{what}: not the lines of {name}")
+    room = {key: b"\xa5" * kindi.length(s, key) for key in this.outputs}
+    found = invoke(library, name, number, inputs, room, b"\x5a" * this.work(s))
+    check(found.status == status, f"{what}: status {found.status}")
+    check(not any(found.work), f"{what}: the work area is not all zeros")
     for key, data in found.outputs.items():
-        check(data == slices[key], f"set {number}, {place}: {key} is not the known answer")
+        check(data == (room[key] if status else bytes.fromhex(lines[key])), f"{what}: {key} is not the known answer")
+    for key, value in found.values.items():
+        check(str(value) in lines.get(key, "0").split(), f"{what}: {key} is not the known answer")
+    return {} if status else found.outputs
 
 
 def test():
     library, count = load(), 0
     for number in kindi.SETS:
-        met = set()
-        for place, (name, slices) in enumerate(parts(FOLDER / f"set{number}.txt"), 1):
-            one_part(library, number, name, slices, f"part {place} ({name})")
+        met, above = set(), {}
+        for place, (name, lines) in enumerate(parts(FOLDER / f"set{number}.txt"), 1):
+            made = one_part(library, number, name, lines, above, f"set {number}, part {place} ({name})")
+            above.update({key: data for key, data in made.items() if key in KEPT})
             met.add(name)
             count += 1
         check(met == set(NAMES), f"set {number} has known answers of {sorted(met)}")

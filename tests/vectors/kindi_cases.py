@@ -5,9 +5,11 @@ usage: kindi_cases.py          write tests/vectors/known_answers/set1.txt to set
        kindi_cases.py --check  only say whether the files are what would be written
 
 A file is text. A part begins with a call's name in brackets and has a line 'name = value' for each
-input and output of that call, in the order of its arguments; a value is bytes in hexadecimal, and
-nothing where there are none. The public key that is encrypted to is the one of the last keygen above,
-and is not repeated. Lines that begin with # are comments.
+input, output and returned value of that call, in the order of its arguments. An input or output is bytes
+in hexadecimal, and nothing where there are none; a returned value is a decimal number, or all right ones
+where several are right. A key or a ciphertext that has no line is the one that the last part above gave
+out. A refusal has a line 'status = number' in place of what it leaves alone. Lines that begin with # are
+comments.
 """
 
 import hashlib
@@ -30,15 +32,34 @@ def draw(number, what, size):
     return hashlib.shake_256(f"KINDI known answers, set {number}, {what}".encode()).digest(size)
 
 
-def part(name, s, inputs):
-    """The lines of one call, and what it gives."""
-    got = kindi.ask(name, s, inputs)
-    assert got.status == 0
-    given = dict(zip(kindi.CALLS[name].inputs, inputs))
-    if "public_key" in given:
-        del given["public_key"]
-    lines = [f"{key} = {data.hex()}".rstrip() for key, data in {**given, **got.outputs}.items()]
-    return [f"[{name}]", *lines, ""], got.outputs
+# What a part leaves out where one above gave it out.
+KEPT = ("public_key", "secret_key", "ciphertext")
+
+
+class Parts:
+    """The lines of the parts so far, and the keys and the ciphertext that the last of them gave out."""
+
+    def __init__(self, s):
+        self.s, self.lines, self.above = s, [], {}
+
+    def add(self, name, *inputs, note=None, status=0):
+        """Adds one call; what it gives."""
+        got = kindi.ask(name, self.s, inputs)
+        assert got.status == status
+        given = dict(zip(kindi.CALLS[name].inputs, inputs))
+        shown = {key: data for key, data in given.items() if data != self.above.get(key)}
+        self.lines += [f"# {note}"] * (note is not None) + [f"[{name}]"]
+        if status:
+            self.lines += hexadecimal(shown) + [f"status = {status}", ""]
+        else:
+            numbers = [f"{key} = {' '.join(map(str, right))}" for key, right in got.values.items()]
+            self.lines += hexadecimal({**shown, **got.outputs}) + numbers + [""]
+            self.above.update({key: data for key, data in got.outputs.items() if key in KEPT})
+        return got
+
+
+def hexadecimal(slices):
+    return [f"{key} = {data.hex()}".rstrip() for key, data in slices.items()]
 
 
 def key_inputs(number, s):
@@ -55,25 +76,41 @@ def pairs(number, s):
         yield draw(number, f"coins of the {what}", s.coins), draw(number, what, size)
 
 
+def refused(parts, coins):
+    """A refusal of each number from 5 to 8, under the keys above and with the empty message above."""
+    s, above = parts.s, parts.above
+    public_key, secret_key, ciphertext = (above[key] for key in ("public_key", "secret_key", "ciphertext"))
+    polys = kindi.polynomials(s, s.k, ciphertext)
+    polys[-1][0] += 2 * s.p
+    parts.add("decaps", secret_key, ciphertext, status=7)
+    parts.add("decrypt", secret_key, kindi.string(s.k, polys), note="coefficient 0 of D raised by 2p", status=5)
+    blank = kindi.encrypt_padded(s, public_key, coins, bytes(s.padded))
+    parts.add("decrypt", secret_key, blank, note="a padded message of zeros", status=6)
+    flipped = bytes([secret_key[0] ^ 1]) + secret_key[1:]
+    parts.add("noise", flipped, coins, b"", note="the first bit of the key changed", status=8)
+
+
 def known_answers(number, s):
+    parts = Parts(s)
     first, *others = key_inputs(number, s)
-    lines, keys = part("keygen", s, first)
+    keys = parts.add("keygen", *first).outputs
     for coins, message in pairs(number, s):
-        more, made = part("encrypt", s, (keys["public_key"], coins, message))
-        lines += [f"# a message of {len(message)} bytes", *more]
-        # A stored pair is clear, so that the file serves decryption too.
-        opened = kindi.ask("decrypt", s, (keys["secret_key"], made["ciphertext"]))
-        assert (opened.status, opened.outputs["coins"], opened.values["message_len"]) == (0, coins, [len(message)])
+        parts.add("encrypt", keys["public_key"], coins, message, note=f"a message of {len(message)} bytes")
+        opened = parts.add("decrypt", keys["secret_key"], parts.above["ciphertext"])
+        assert (opened.outputs["coins"], opened.values["message_len"]) == (coins, [len(message)])
+        parts.add("noise", keys["secret_key"], coins, message)
+        if not message:
+            refused(parts, coins)
     coins = draw(number, "coins of the shared key", s.coins)
-    more, made = part("encaps", s, (keys["public_key"], coins))
-    lines += more
-    assert kindi.ask("decaps", s, (keys["secret_key"], made["ciphertext"])).outputs == {"key": made["key"]}
+    made = parts.add("encaps", keys["public_key"], coins).outputs
+    assert parts.add("decaps", keys["secret_key"], made["ciphertext"]).outputs == {"key": made["key"]}
+    parts.add("choose", keys["secret_key"], b"", draw(number, "coins to choose from", 3 * s.coins))
     for seeds in others:
-        more, keys = part("keygen", s, seeds)
-        lines += [f"# every byte of the seeds and coins is {seeds[0][:1].hex()}", *more]
-        more, _ = part("encaps", s, (keys["public_key"], seeds[0][:1] * s.coins))
-        lines += more
-    return lines
+        note = f"every byte of the seeds and coins is {seeds[0][:1].hex()}"
+        keys = parts.add("keygen", *seeds, note=note).outputs
+        made = parts.add("encaps", keys["public_key"], seeds[0][:1] * s.coins).outputs
+        parts.add("decaps", keys["secret_key"], made["ciphertext"])
+    return parts.lines
 
 
 def make():
