@@ -1,77 +1,25 @@
 /*
- * Calls the scheme on secrets that memcheck takes for undefined: it then reports every branch and every
- * address that depends on them. Secret are gamma and z in keygen, the coins and the message in encrypt,
- * the coins in encaps; mu and the public key are public. The outputs and the work area are undefined at
- * entry too, as memory that nobody wrote, and each buffer has its exact length, so that memcheck sees a
- * read or a write beside it. With an argument the program itself branches on a ciphertext, which
- * memcheck must report, so that a silent run means something.
+ * Calls keygen, encrypt and encaps on secrets that memcheck takes for undefined: it then reports every
+ * branch and every address that depends on them. Secret are gamma and z in keygen, the coins and the
+ * message in encrypt, the coins in encaps; mu and the public key are public. The outputs and the work area
+ * are undefined at entry too, as memory that nobody wrote, and each buffer has its exact length, so that
+ * memcheck sees a read or a write beside it. With an argument the program itself branches on a ciphertext,
+ * which memcheck must report, so that a silent run means something.
  */
-#include <stdio.h>
-#include <stdlib.h>
-
-#include <valgrind/memcheck.h>
-
 #include "kindi.h"
-
-#define SETS 4
+#include "secrets.h"
 
 /* What is secret in an encryption. */
 enum { COINS = 1, MESSAGE = 2 };
 
-/* A buffer of exactly size bytes, 1 to 251 by turns; one that is secret, or to be written, is undefined. */
-static uint8_t *buffer(size_t size, int undefined)
-{
-    uint8_t *made = malloc(size);
-    size_t i;
-
-    if (!made) {
-        printf("FAILED: no memory\n");
-        exit(1);
-    }
-    for (i = 0; i < size; i++)
-        made[i] = (uint8_t)(i % 251 + 1);
-    if (undefined)
-        (void)VALGRIND_MAKE_MEM_UNDEFINED(made, size);
-    return made;
-}
-
-static void fail(const char *call, uint32_t set, const char *what)
-{
-    printf("FAILED: %s of set %lu: %s\n", call, (unsigned long)set, what);
-    exit(1);
-}
-
-/* The bits of a byte that count as made from what was marked. */
-static uint8_t marked(const uint8_t *byte)
-{
-    uint8_t bits = 0;
-
-    if (VALGRIND_GET_VBITS(byte, &bits, 1) != 1) {
-        printf("FAILED: memcheck has no bits of a byte\n");
-        exit(1);
-    }
-    return bits;
-}
-
-/* Accepted, which is known without the secrets; and the work area is zeros, which depend on nothing. */
+/* Accepted, which is known without the secrets. */
 static void accepted(const char *call, uint32_t set, uint32_t status, const uint8_t *work, size_t work_len)
 {
-    size_t i;
-
     if (VALGRIND_CHECK_MEM_IS_DEFINED(&status, sizeof status) != 0)
         fail(call, set, "the status depends on a secret");
     if (status != KINDI_OK)
         fail(call, set, "refused");
-    for (i = 0; i < work_len; i++)
-        if (marked(work + i) != 0 || work[i] != 0)
-            fail(call, set, "the work area is not wiped");
-}
-
-/* The first and the last byte depend on the secrets, or memcheck lost track of them. */
-static void depends(const char *call, uint32_t set, const uint8_t *output, size_t size)
-{
-    if (marked(output) == 0 || marked(output + size - 1) == 0)
-        fail(call, set, "an output does not count as made from the secrets");
+    wiped(call, set, work, work_len);
 }
 
 static void keygen(uint32_t set)
@@ -135,10 +83,7 @@ int main(int argc, char **argv)
     uint32_t set;
 
     (void)argv;
-    if (!RUNNING_ON_VALGRIND) {
-        printf("FAILED: not under valgrind\n");
-        return 1;
-    }
+    under_valgrind();
     for (set = 1; set <= SETS; set++) {
         keygen(set);
         encrypt(set, COINS);
