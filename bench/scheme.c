@@ -1,6 +1,6 @@
 /*
- * Times keygen, encrypt and encaps in each parameter set beside portable C that multiplies by a
- * double-precision transform.
+ * Times the calls of the scheme in each parameter set beside portable C that multiplies by a
+ * double-precision transform, or where the product is one over the integers, as the library does.
  */
 #include <stdio.h>
 #include <stdlib.h>
@@ -16,12 +16,16 @@
 /* How many inputs of each call are compared before it is timed. */
 #define INPUTS 4
 
-static uint8_t mu[MOST_SEED], gamma_seed[MOST_SEED], z[MOST_SEED], coins[MOST_COINS], message[MOST_PADDED - 1];
-static uint8_t recipient[MOST_PUBLIC_KEY], work_area[MOST_WORK];
+static uint8_t mu[MOST_SEED], gamma_seed[MOST_SEED], z[MOST_SEED], coins[LIST * MOST_COINS], message[MOST_PADDED - 1];
+static uint8_t recipient[MOST_PUBLIC_KEY], owner[MOST_SECRET_KEY];
+static uint8_t encrypted[MOST_CIPHERTEXT], shared[MOST_CIPHERTEXT], work_area[MOST_WORK];
 
-/* All that a call may write. */
+/* All that a call may write, but a place that is chosen: which of the clear coins it is of, is free. */
 static struct outputs {
     uint8_t public_key[MOST_PUBLIC_KEY], secret_key[MOST_SECRET_KEY], key[MOST_COINS], ciphertext[MOST_CIPHERTEXT];
+    uint8_t coins[MOST_COINS], message[MOST_PADDED - 1];
+    size_t message_len;
+    uint32_t clear, largest;
 } out;
 
 /* A call that refuses does no work, and a figure of it says nothing. */
@@ -39,7 +43,7 @@ static void ours_keygen(void *arg)
     const struct lengths *len = &set_lengths[set - 1];
 
     accepted("keygen", set, kindi_keygen(set, mu, len->seed, gamma_seed, len->seed, z, len->seed, out.public_key,
-        len->public_key, out.secret_key, len->secret_key, work_area, len->keygen_work));
+        len->public_key, out.secret_key, len->secret_key, work_area, KINDI_KEYGEN_WORK_LEN(set)));
 }
 
 static void c_keygen(void *arg)
@@ -53,7 +57,7 @@ static void ours_encrypt(void *arg)
     const struct lengths *len = &set_lengths[set - 1];
 
     accepted("encrypt", set, kindi_encrypt(set, recipient, len->public_key, coins, len->coins, message,
-        len->padded - 1, out.ciphertext, len->ciphertext, work_area, len->encrypt_work));
+        len->padded - 1, out.ciphertext, len->ciphertext, work_area, KINDI_ENCRYPT_WORK_LEN(set)));
 }
 
 static void c_encrypt(void *arg)
@@ -63,18 +67,83 @@ static void c_encrypt(void *arg)
     ref_encrypt(set, recipient, coins, message, set_lengths[set - 1].padded - 1, out.ciphertext);
 }
 
+static void ours_decrypt(void *arg)
+{
+    uint32_t set = *(const uint32_t *)arg;
+    const struct lengths *len = &set_lengths[set - 1];
+
+    accepted("decrypt", set, kindi_decrypt(set, owner, len->secret_key, encrypted, len->ciphertext, out.coins,
+        len->coins, out.message, len->padded - 1, &out.message_len, work_area, KINDI_DECRYPT_WORK_LEN(set)));
+}
+
+static void c_decrypt(void *arg)
+{
+    uint32_t set = *(const uint32_t *)arg;
+
+    accepted("decrypt in C", set, ref_decrypt(set, owner, encrypted, out.coins, out.message, &out.message_len));
+}
+
 static void ours_encaps(void *arg)
 {
     uint32_t set = *(const uint32_t *)arg;
     const struct lengths *len = &set_lengths[set - 1];
 
     accepted("encaps", set, kindi_encaps(set, recipient, len->public_key, coins, len->coins, out.key, len->coins,
-        out.ciphertext, len->ciphertext, work_area, len->encaps_work));
+        out.ciphertext, len->ciphertext, work_area, KINDI_ENCAPS_WORK_LEN(set)));
 }
 
 static void c_encaps(void *arg)
 {
     ref_encaps(*(const uint32_t *)arg, recipient, coins, out.key, out.ciphertext);
+}
+
+static void ours_decaps(void *arg)
+{
+    uint32_t set = *(const uint32_t *)arg;
+    const struct lengths *len = &set_lengths[set - 1];
+
+    accepted("decaps", set, kindi_decaps(set, owner, len->secret_key, shared, len->ciphertext, out.key, len->coins,
+        work_area, KINDI_DECAPS_WORK_LEN(set)));
+}
+
+static void c_decaps(void *arg)
+{
+    uint32_t set = *(const uint32_t *)arg;
+
+    accepted("decaps in C", set, ref_decaps(set, owner, shared, out.key));
+}
+
+static void ours_noise(void *arg)
+{
+    uint32_t set = *(const uint32_t *)arg;
+    const struct lengths *len = &set_lengths[set - 1];
+
+    accepted("noise", set, kindi_noise(set, owner, len->secret_key, coins, len->coins, message, len->padded - 1,
+        &out.clear, &out.largest, work_area, KINDI_NOISE_WORK_LEN(set)));
+}
+
+static void c_noise(void *arg)
+{
+    uint32_t set = *(const uint32_t *)arg;
+
+    accepted("noise in C", set, ref_noise(set, owner, coins, message, set_lengths[set - 1].padded - 1, &out.clear,
+        &out.largest));
+}
+
+static void ours_choose(void *arg)
+{
+    uint32_t set = *(const uint32_t *)arg, place;
+    const struct lengths *len = &set_lengths[set - 1];
+
+    accepted("choose", set, kindi_choose(set, owner, len->secret_key, message, len->padded - 1, coins,
+        LIST * len->coins, &place, work_area, KINDI_CHOOSE_WORK_LEN(set)));
+}
+
+static void c_choose(void *arg)
+{
+    uint32_t set = *(const uint32_t *)arg, place;
+
+    accepted("choose in C", set, ref_choose(set, owner, message, set_lengths[set - 1].padded - 1, coins, LIST, &place));
 }
 
 static const struct call {
@@ -83,7 +152,11 @@ static const struct call {
 } calls[] = {
     { "keygen", ours_keygen, c_keygen },
     { "encrypt, longest message", ours_encrypt, c_encrypt },
+    { "decrypt, longest message", ours_decrypt, c_decrypt },
     { "encaps", ours_encaps, c_encaps },
+    { "decaps", ours_decaps, c_decaps },
+    { "noise", ours_noise, c_noise },
+    { "choose, of 8 coins", ours_choose, c_choose },
 };
 
 static void fill_bytes(uint8_t *bytes, size_t count, uint32_t seed)
@@ -106,6 +179,11 @@ static void fill(uint32_t set, uint32_t number)
     fill_bytes(message, sizeof message, 5 * number + 4);
     c_keygen(&set);
     memcpy(recipient, out.public_key, sizeof recipient);
+    memcpy(owner, out.secret_key, sizeof owner);
+    c_encrypt(&set);
+    memcpy(encrypted, out.ciphertext, sizeof encrypted);
+    c_encaps(&set);
+    memcpy(shared, out.ciphertext, sizeof shared);
 }
 
 /* A figure of two programs that do different things says nothing. */

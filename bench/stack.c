@@ -19,14 +19,17 @@
 #define COUNT(array) (sizeof(array) / sizeof((array)[0]))
 
 static uint8_t input[1000], output[5000];
-static uint8_t mu[MOST_SEED], gamma_seed[MOST_SEED], z[MOST_SEED], coins[MOST_COINS], message[MOST_PADDED - 1];
+static uint8_t mu[MOST_SEED], gamma_seed[MOST_SEED], z[MOST_SEED], coins[LIST * MOST_COINS], message[MOST_PADDED - 1];
 static uint8_t public_key[MOST_PUBLIC_KEY], secret_key[MOST_SECRET_KEY], key[MOST_COINS], ciphertext[MOST_CIPHERTEXT];
 static uint8_t work[MOST_WORK];
 
-/* A call in a parameter set, which is 0 where a call has none, and what it answered. */
+/*
+ * A call and the one that makes what it takes, besides the keys; the parameter set, which is 0 where a call
+ * has none; and what the call answered.
+ */
 struct call {
     const char *name;
-    uint32_t (*run)(uint32_t set);
+    uint32_t (*run)(uint32_t set), (*before)(uint32_t set);
     uint32_t set, answer;
 };
 
@@ -55,7 +58,7 @@ static uint32_t keygen(uint32_t set)
     const struct lengths *len = &set_lengths[set - 1];
 
     return kindi_keygen(set, mu, len->seed, gamma_seed, len->seed, z, len->seed, public_key, len->public_key,
-        secret_key, len->secret_key, work, len->keygen_work);
+        secret_key, len->secret_key, work, KINDI_KEYGEN_WORK_LEN(set));
 }
 
 static uint32_t encrypt(uint32_t set)
@@ -63,7 +66,16 @@ static uint32_t encrypt(uint32_t set)
     const struct lengths *len = &set_lengths[set - 1];
 
     return kindi_encrypt(set, public_key, len->public_key, coins, len->coins, message, len->padded - 1, ciphertext,
-        len->ciphertext, work, len->encrypt_work);
+        len->ciphertext, work, KINDI_ENCRYPT_WORK_LEN(set));
+}
+
+static uint32_t decrypt(uint32_t set)
+{
+    const struct lengths *len = &set_lengths[set - 1];
+    size_t message_len;
+
+    return kindi_decrypt(set, secret_key, len->secret_key, ciphertext, len->ciphertext, coins, len->coins, message,
+        len->padded - 1, &message_len, work, KINDI_DECRYPT_WORK_LEN(set));
 }
 
 static uint32_t encaps(uint32_t set)
@@ -71,7 +83,33 @@ static uint32_t encaps(uint32_t set)
     const struct lengths *len = &set_lengths[set - 1];
 
     return kindi_encaps(set, public_key, len->public_key, coins, len->coins, key, len->coins, ciphertext,
-        len->ciphertext, work, len->encaps_work);
+        len->ciphertext, work, KINDI_ENCAPS_WORK_LEN(set));
+}
+
+static uint32_t decaps(uint32_t set)
+{
+    const struct lengths *len = &set_lengths[set - 1];
+
+    return kindi_decaps(set, secret_key, len->secret_key, ciphertext, len->ciphertext, key, len->coins, work,
+        KINDI_DECAPS_WORK_LEN(set));
+}
+
+static uint32_t noise(uint32_t set)
+{
+    const struct lengths *len = &set_lengths[set - 1];
+    uint32_t clear, largest;
+
+    return kindi_noise(set, secret_key, len->secret_key, coins, len->coins, message, len->padded - 1, &clear, &largest,
+        work, KINDI_NOISE_WORK_LEN(set));
+}
+
+static uint32_t choose(uint32_t set)
+{
+    const struct lengths *len = &set_lengths[set - 1];
+    uint32_t place;
+
+    return kindi_choose(set, secret_key, len->secret_key, message, len->padded - 1, coins, LIST * len->coins, &place,
+        work, KINDI_CHOOSE_WORK_LEN(set));
 }
 
 static void *run(void *arg)
@@ -117,11 +155,16 @@ static void row(uint8_t *stack, struct call call, long idle)
 
 int main(void)
 {
-    static const struct call hashes[] = { { "kindi_shake128", shake128, 0, 0 }, { "kindi_shake256", shake256, 0, 0 } };
-    static const struct call calls[] = {
-        { "kindi_keygen", keygen, 0, 0 }, { "kindi_encrypt", encrypt, 0, 0 }, { "kindi_encaps", encaps, 0, 0 },
+    static const struct call hashes[] = {
+        { "kindi_shake128", shake128, nothing, 0, 0 }, { "kindi_shake256", shake256, nothing, 0, 0 },
     };
-    struct call call = { "no call", nothing, 0, 0 };
+    static const struct call calls[] = {
+        { "kindi_keygen", keygen, nothing, 0, 0 },
+        { "kindi_encrypt", encrypt, nothing, 0, 0 }, { "kindi_decrypt", decrypt, encrypt, 0, 0 },
+        { "kindi_encaps", encaps, nothing, 0, 0 }, { "kindi_decaps", decaps, encaps, 0, 0 },
+        { "kindi_noise", noise, nothing, 0, 0 }, { "kindi_choose", choose, nothing, 0, 0 },
+    };
+    struct call call = { "no call", nothing, nothing, 0, 0 };
     void *stack;
     long idle;
     size_t i;
@@ -136,8 +179,13 @@ int main(void)
         row(stack, hashes[i], idle);
     for (i = 0; i < COUNT(calls); i++) {
         call = calls[i];
-        for (call.set = 1; call.set <= SETS; call.set++)
+        for (call.set = 1; call.set <= SETS; call.set++) {
+            if (keygen(call.set) != 0 || call.before(call.set) != 0) {
+                fprintf(stderr, "stack: what %s takes was refused\n", call.name);
+                return 1;
+            }
             row(stack, call, idle);
+        }
     }
     free(stack);
     return 0;
