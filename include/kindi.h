@@ -195,8 +195,9 @@ uint32_t kindi_encaps(uint32_t set, const uint8_t *public_key, size_t public_key
  * Takes a shared key out of its ciphertext.
  *
  * The answer is a key only where kindi_encaps of the ciphertext's coins to the public key in the secret
- * key gives this key and this very ciphertext; so a ciphertext that was altered is refused, and so is one
- * of kindi_encrypt. Whoever sends ciphertexts should not learn which refusal they met.
+ * key gives this key and this very ciphertext. So a ciphertext that was altered is refused, unless it is
+ * another that kindi_encaps makes, and so is one of kindi_encrypt. Whoever sends ciphertexts should not
+ * learn which refusal they met.
  *
  *   secret_key   KINDI_SECRET_KEY_LEN bytes
  *   ciphertext   KINDI_CIPHERTEXT_LEN bytes
