@@ -75,22 +75,24 @@ def product_by_terms(a, b):
 
 
 def product(a, b):
-    """The same product by a single multiplication: at X = 2^64 a polynomial is an integer, and X^n + 1
-    is the integer that the product is taken modulo."""
-    n, half = len(a), 2**63
-    # Half of 2^64 at every place: with it added, signed coefficients are digits of 0 to 2^64 - 1.
-    offset = int.from_bytes(struct.pack("<Q", half) * n, "little")
+    """The same product by a single multiplication: at X = 2^32, or at 2^64 where the coefficients ask for
+    it, a polynomial is an integer, and X^n + 1 is the integer that the product is taken modulo."""
+    n, bound = len(a), len(a) * (largest(a) + 1) * (largest(b) + 1)
+    code, bits = ("I", 32) if bound < 2**31 else ("Q", 64)
+    half = 2**(bits - 1)
+    if bound >= half:
+        raise ValueError("coefficients too large for digits of 64 bits")
+    # Half of X at every place: with it added, signed coefficients are digits of 0 to X - 1.
+    offset = int.from_bytes(struct.pack(f"<{code}", half) * n, "little")
 
     def at_power(coefficients):
-        digits = struct.pack(f"<{n}Q", *(c + half for c in coefficients))
+        digits = struct.pack(f"<{n}{code}", *[c + half for c in coefficients])
         return int.from_bytes(digits, "little") - offset
 
-    if n * max(map(abs, a), default=0) * max(map(abs, b), default=0) >= half:
-        raise ValueError("coefficients too large for digits of 64 bits")
     # X^n is -1: what stands above it is taken away, by a shift, since a division of such numbers is slow.
-    whole, power = at_power(a) * at_power(b), 64 * n
+    whole, power = at_power(a) * at_power(b), bits * n
     value = ((whole & (2**power - 1)) - (whole >> power) + offset) % (2**power + 1)
-    return [digit - half for digit in struct.unpack(f"<{n}Q", value.to_bytes(8 * n, "little"))]
+    return [digit - half for digit in struct.unpack(f"<{n}{code}", value.to_bytes(power // 8, "little"))]
 
 
 def largest(coefficients):
