@@ -25,7 +25,7 @@ def flipped(data, bit):
     return data[:place] + bytes([data[place] ^ 1 << bit % 8]) + data[place + 1:]
 
 
-class Session:
+class Trial:
     """A set with a made key pair, and the statuses of the calls made."""
 
     def __init__(self, library, number, part):
@@ -79,66 +79,66 @@ class Session:
         return kindi.string(self.s.k, polys)
 
 
-# The parts of the test; each takes a session.
+# The parts of the test; each takes a trial.
 
-def round_trips(session):
+def round_trips(trial):
     """Messages of each length and some contents come back, and shared keys do."""
-    s, rng = session.s, session.rng
+    s, rng = trial.s, trial.rng
     lengths = (0, 1, 2, s.coins - 1, s.coins, s.coins + 1, rng.randrange(s.message), s.message - 1, s.message)
     contents = (rng.randbytes, bytes, lambda size: b"\x01" * size, lambda size: b"\xff" * size)
     for size, content in itertools.product(lengths, contents):
         coins = content(s.coins) if size == 0 else rng.randbytes(s.coins)
         message, what = content(size), f"a message of {size} bytes"
-        session.expect(0, what, "encrypt", session.public_key, coins, message)
-        session.expect(0, what, "noise", session.secret_key, coins, message)
-        check(session.open(what, session.encrypt(coins, kindi.pad(s, message))) == [0, 7], f"{what} does not come back")
-        session.expect(0, "a shared key", "encaps", session.public_key, coins)
-        shared = session.encrypt(coins, kindi.pad(s, kindi.digest(s, coins)))
-        check(session.open("a shared key", shared) == [0, 0], "a shared key does not come back")
+        trial.expect(0, what, "encrypt", trial.public_key, coins, message)
+        trial.expect(0, what, "noise", trial.secret_key, coins, message)
+        check(trial.open(what, trial.encrypt(coins, kindi.pad(s, message))) == [0, 7], f"{what} does not come back")
+        trial.expect(0, "a shared key", "encaps", trial.public_key, coins)
+        shared = trial.encrypt(coins, kindi.pad(s, kindi.digest(s, coins)))
+        check(trial.open("a shared key", shared) == [0, 0], "a shared key does not come back")
 
 
-def altered(session):
+def altered(trial):
     """Bits of a ciphertext changed, coefficients raised, polynomials exchanged."""
-    s, rng = session.s, session.rng
+    s, rng = trial.s, trial.rng
     size = s.size(1, s.k)
-    for coins, padded in session.bases():
-        ciphertext = session.encrypt(coins, padded)
+    for coins, padded in trial.bases():
+        ciphertext = trial.encrypt(coins, padded)
         ends = [8 * byte + bit for j in range(s.l + 1) for byte in (j * size, (j + 1) * size - 1) for bit in range(8)]
         for bit in ends + [rng.randrange(8 * s.ciphertext) for _ in range(RANDOM_BITS)]:
-            session.open(f"bit {bit} changed", flipped(ciphertext, bit))
+            trial.open(f"bit {bit} changed", flipped(ciphertext, bit))
         for j, change in itertools.product(range(s.l + 1), (1, 8, 2 * s.p, s.q // 4, s.q // 2)):
             for place, sign in itertools.product((0, s.n - 1, rng.randrange(s.n)), (1, -1)):
                 what = f"coefficient {place} of polynomial {j} raised by {sign * change}"
-                session.open(what, session.raised(ciphertext, (j, place, sign * change)))
+                trial.open(what, trial.raised(ciphertext, (j, place, sign * change)))
         for i, j in itertools.combinations(range(s.l + 1), 2):
             polys = kindi.polynomials(s, s.k, ciphertext)
             polys[i], polys[j] = polys[j], polys[i]
-            session.open(f"polynomials {i} and {j} exchanged", kindi.string(s.k, polys))
+            trial.open(f"polynomials {i} and {j} exchanged", kindi.string(s.k, polys))
 
 
-def ends_of_ranges(session):
+def ends_of_ranges(trial):
     """Errors at the ends of their range, and V at the ends of the rounding intervals."""
-    s = session.s
-    for coins, padded in session.bases():
-        ciphertext = session.encrypt(coins, padded)
+    s = trial.s
+    for coins, padded in trial.bases():
+        ciphertext = trial.encrypt(coins, padded)
         errors = kindi.errors_of(s, padded, kindi.coins_stream(s, coins)[1])
         for j, place in itertools.product(range(s.l + 1), (0, 1, s.n // 2, s.n - 1)):
             for error in (-s.p - 1, -s.p, s.p - 1, s.p, 3 * s.p - 1, -3 * s.p):
                 what = f"the error at {place} of polynomial {j} is {error}"
-                changed = session.raised(ciphertext, (j, place, error - errors[j][place]))
-                status, _ = session.open(what, changed)
+                changed = trial.raised(ciphertext, (j, place, error - errors[j][place]))
+                status, _ = trial.open(what, changed)
                 # Another error may also take V over an end; then the coins differ, and so do all errors.
-                check(status == 5 or -s.p <= error < s.p, f"set {session.number}, {what}: status {status}")
-        values = kindi.difference_value(s, session.secret_key, ciphertext)
+                check(status == 5 or -s.p <= error < s.p, f"set {trial.number}, {what}: status {status}")
+        values = kindi.difference_value(s, trial.secret_key, ciphertext)
         for place, end in itertools.product((0, 1, s.n // 2, s.n - 1), (s.q // 4, 3 * s.q // 4)):
             for value in (end - 1, end):
-                changed = session.raised(ciphertext, (s.l, place, value - values[place]))
-                session.open(f"V at {place} is {value}", changed)
+                changed = trial.raised(ciphertext, (s.l, place, value - values[place]))
+                trial.open(f"V at {place} is {value}", changed)
 
 
-def paddings(session):
+def paddings(trial):
     """Padded messages whose end is right or wrong at every kind of place."""
-    s, rng = session.s, session.rng
+    s, rng = trial.s, trial.rng
     coins = rng.randbytes(s.coins)
     places = (0, 1, s.coins - 1, s.coins, s.coins + 1, s.padded // 2, s.padded - 2, s.padded - 1)
     listed = [byte * s.padded for byte in (b"\x00", b"\x01", b"\x02", b"\xff")] + [rng.randbytes(s.padded)]
@@ -150,65 +150,65 @@ def paddings(session):
     bits = [8 * place + bit for place in (0, *places[2:5], s.padded - 1) for bit in range(8)]
     listed += [right] + [flipped(right, bit) for bit in bits + [rng.randrange(8 * s.padded) for _ in range(20)]]
     for padded in listed:
-        status, _ = session.open(f"padded message ending {padded.rstrip(bytes(1))[-4:].hex()}",
-                                 session.encrypt(coins, padded))
-        check((status == 0) == (kindi.unpad(padded) is not None), f"set {session.number}: status {status} of a padding")
+        status, _ = trial.open(f"padded message ending {padded.rstrip(bytes(1))[-4:].hex()}",
+                                 trial.encrypt(coins, padded))
+        check((status == 0) == (kindi.unpad(padded) is not None), f"set {trial.number}: status {status} of a padding")
 
 
-def strangers(session):
+def strangers(trial):
     """Ciphertexts that nobody made, or for another key, and secret keys that nobody made."""
-    s, rng = session.s, session.rng
+    s, rng = trial.s, trial.rng
     other, _ = kindi.made_keys(s, rng)
-    coins, padded = next(session.bases())
-    made = session.encrypt(coins, padded)
-    session.open("another key's", kindi.encrypt_padded(s, other, coins, padded))
+    coins, padded = next(trial.bases())
+    made = trial.encrypt(coins, padded)
+    trial.open("another key's", kindi.encrypt_padded(s, other, coins, padded))
     for byte in (b"\x00", b"\xff", b"\x55"):
-        session.open("all the same", byte * s.ciphertext)
-        session.open("under a key of equal bytes", made, byte * s.secret_key)
+        trial.open("all the same", byte * s.ciphertext)
+        trial.open("under a key of equal bytes", made, byte * s.secret_key)
     for _ in range(RANDOM_KEYS):
-        session.open("random bytes", rng.randbytes(s.ciphertext))
+        trial.open("random bytes", rng.randbytes(s.ciphertext))
         key = rng.randbytes(s.secret_key)
-        session.open("under a random key", made, key)
-        session.open("of a random key", kindi.encrypt_padded(s, key[:s.public_key], coins, padded), key)
-    session.expect(8, "a random key", "noise", key, coins, b"")
-    session.expect(8, "a random key", "choose", key, b"", coins * 3)
+        trial.open("under a random key", made, key)
+        trial.open("of a random key", kindi.encrypt_padded(s, key[:s.public_key], coins, padded), key)
+    trial.expect(8, "a random key", "noise", key, coins, b"")
+    trial.expect(8, "a random key", "choose", key, b"", coins * 3)
 
 
-def damaged_keys(session):
+def damaged_keys(trial):
     """A bit of the secret key changed: in the stored polynomials, in mu, in gamma, and in z, which
     nothing depends on."""
-    s, rng = session.s, session.rng
-    coins, padded = next(session.bases())
-    ciphertext, message = session.encrypt(coins, padded), kindi.unpad(padded)
+    s, rng = trial.s, trial.rng
+    coins, padded = next(trial.bases())
+    ciphertext, message = trial.encrypt(coins, padded), kindi.unpad(padded)
     ends = list(itertools.accumulate((s.public_key - s.seed, s.seed, s.seed, s.seed), initial=0))
     for first, end in itertools.pairwise(ends):
         for bit in (8 * first, 8 * end - 1, *(rng.randrange(8 * first, 8 * end) for _ in range(4))):
-            what, key = f"bit {bit} of the secret key changed", flipped(session.secret_key, bit)
+            what, key = f"bit {bit} of the secret key changed", flipped(trial.secret_key, bit)
             status = 0 if first == ends[3] else 8
-            session.open(what, ciphertext, key)
-            session.expect(status, what, "noise", key, coins, message)
-            session.expect(status, what, "choose", key, message, coins * 2)
+            trial.open(what, ciphertext, key)
+            trial.expect(status, what, "noise", key, coins, message)
+            trial.expect(status, what, "choose", key, message, coins * 2)
 
 
-def choices(session):
+def choices(trial):
     """Lists of 1 to 8 coins with messages of several lengths, and the noise of each."""
-    s, rng = session.s, session.rng
+    s, rng = trial.s, trial.rng
     for count in range(1, kindi.MOST_COINS + 1):
         message = rng.randbytes(rng.choice((0, 1, s.coins, s.message)))
         several = [rng.randbytes(s.coins) for _ in range(count)]
         # Some lists have the same coins twice, all zeros or all ones.
         several[rng.randrange(count)] = rng.choice((several[0], bytes(s.coins), b"\xff" * s.coins))
-        session.expect(0, f"{count} coins", "choose", session.secret_key, message, b"".join(several))
+        trial.expect(0, f"{count} coins", "choose", trial.secret_key, message, b"".join(several))
         for coins in several:
-            session.expect(0, "coins of a list", "noise", session.secret_key, coins, message)
+            trial.expect(0, "coins of a list", "noise", trial.secret_key, coins, message)
 
 
-def table(session):
+def table(trial):
     """The examples of the paper's table, 1 to 8, as they stand there for set 1, and the like in the others."""
-    s, rng, expect = session.s, session.rng, session.expect
-    coins, public_key, secret_key = rng.randbytes(s.coins), session.public_key, session.secret_key
+    s, rng, expect = trial.s, trial.rng, trial.expect
+    coins, public_key, secret_key = rng.randbytes(s.coins), trial.public_key, trial.secret_key
     seeds = [rng.randbytes(s.seed) for _ in range(3)]
-    empty = session.encrypt(coins, kindi.pad(s, b""))
+    empty = trial.encrypt(coins, kindi.pad(s, b""))
     inputs = {"keygen": seeds, "encrypt": (public_key, coins, b""), "decrypt": (secret_key, empty),
               "encaps": (public_key, coins), "decaps": (secret_key, empty), "noise": (secret_key, coins, b""),
               "choose": (secret_key, b"", coins)}
@@ -229,8 +229,8 @@ def table(session):
     values = kindi.difference_value(s, secret_key, empty)
     place = next(j for j, v in enumerate(values) if len(set(kindi.rounded_bits(s.q, [v, (v + 2 * s.p) % s.q]))) == 1)
     for name in OPENINGS:
-        expect(5, "a coefficient of D raised by 2p", name, secret_key, session.raised(empty, (s.l, place, 2 * s.p)))
-    expect(6, "a padded message of zeros", "decrypt", secret_key, session.encrypt(coins, bytes(s.padded)))
+        expect(5, "a coefficient of D raised by 2p", name, secret_key, trial.raised(empty, (s.l, place, 2 * s.p)))
+    expect(6, "a padded message of zeros", "decrypt", secret_key, trial.encrypt(coins, bytes(s.padded)))
     expect(7, "an empty message", "decaps", secret_key, empty)
     expect(8, "the first bit of the key changed", "noise", flipped(secret_key, 0), coins, b"")
     expect(8, "the first bit of the key changed", "choose", flipped(secret_key, 0), b"", coins)
@@ -244,9 +244,9 @@ def test():
 
     def one_part(item):
         part, number = item
-        session = Session(library, number, part.__name__)
-        part(session)
-        return session.statuses
+        trial = Trial(library, number, part.__name__)
+        part(trial)
+        return trial.statuses
 
     # The longest parts of the largest sets come first, so that no processor waits for another at the end.
     items = list(itertools.product(PARTS, sorted(kindi.SETS, reverse=True)))
