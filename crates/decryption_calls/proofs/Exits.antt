@@ -3,6 +3,7 @@
 use mathlib.Core.Path.{_≡_, sym, ap, _∙_}
 use mathlib.Core.List.{List}
 use Prim.Native.Nat.{ℕ, _≤_}
+use native.Mathlib.Omega.{arith}
 use lib.ListN.{length}
 use Rattle.kindi.specs.declared.Params.{Params}
 use Rattle.kindi.specs.Params.{WellFormed, ofSet, decryptWork}
@@ -13,6 +14,10 @@ use Rattle.decryption_calls.specs.Status.{decryptStatus, decapsStatus}
 use Rattle.decryption_calls.specs.Fitting.{decryptFitting, decapsFitting, MessageRoom, MessageExit, KeyRoom, KeyExit}
 use Rattle.decryption_calls.specs.Exits.{DecryptExit, DecapsExit}
 use Rattle.decryption_calls.proofs.Calls.{decrypt-checked, DecryptLengths, decrypt-lengths, decaps-checked, DecapsLengths, decaps-lengths}
+
+-- Coins fit into 64 bytes.
+pub coins-fit : (P : Params) → WellFormed P → P .coins ≤ 64
+coins-fit P w = omega (arith, w .coin-bits, w .short)
 
 -- ---- decrypt
 

@@ -45,9 +45,9 @@ fn open_key(
     pke::encrypt::add_padded(d, &mut work[at..end]);
     let equal = padding::all_zero(&work[at..end]);
     let differs = checks::refuse_if(!equal, 7, 0);
-    let status = checks::refuse_if(!fits, 5, differs);
-    if status != 0 {
-        return status;
+    let outcome = checks::refuse_if(!fits, 5, differs);
+    if outcome != 0 {
+        return outcome;
     }
     kem::shared_key(p, found, ct, key);
     0

@@ -58,10 +58,10 @@ fn open_message(
     let ended = padding::ending(&work[at..end]);
     let len = ended.len;
     let unmarked = checks::refuse_if(ended.mark != 1, 6, 0);
-    let status = checks::refuse_if(!fits, 5, unmarked);
-    if status != 0 {
+    let outcome = checks::refuse_if(!fits, 5, unmarked);
+    if outcome != 0 {
         *message_len = 0;
-        return status;
+        return outcome;
     }
     hash::strings::copy(coins, found);
     padding::write_message(&work[at..at + len], message);

@@ -4,8 +4,9 @@ use mathlib.Core.Path.{_≡_, sym}
 use native.Mathlib.Omega.{arith}
 use borrow.Author.Needs.{needs}
 use denote.Ref.{now}
-use lib.ListN.{length, take, length-take}
-use Rattle.decryption_calls.proofs.Exits.{decrypt-refused, decrypt-fits, decrypt-exit}
+use lib.ListN.{length, take}
+use lib.Seq.{length-take-le}
+use Rattle.decryption_calls.proofs.Exits.{coins-fit, decrypt-refused, decrypt-fits, decrypt-exit}
 use Rattle.decryption_calls.proofs.decrypt.decrypt.Statement.{statement}
 use Rattle.decryption_calls.proofs.decrypt.decrypt.Tie as tie
 
@@ -42,8 +43,7 @@ array-borrow-prefix-found c = search needs
 long : (c : tie.After-zeros) → length (take (c .before .before .before .before .parameters .result .coins) (c .zeros .result)) ≡ c .before .before .before .before .parameters .result .coins
 long c =
     let zeros : length (c .zeros .result) ≡ 64 = search needs in
-    let well = c .before .before .before .before .parameters .ensures .well in
-    simp length-take (omega (arith, well .coin-bits, well .short))
+    length-take-le _ _ (omega (arith, coins-fit _ (c .before .before .before .before .parameters .ensures .well)))
 
 slice-aggregate-open-message : tie.Need-slice-aggregate-open-message
 slice-aggregate-open-message c = sym (long (c .before))
