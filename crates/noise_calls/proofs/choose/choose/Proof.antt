@@ -1,0 +1,100 @@
+-- `noise_calls::choose::choose` meets its contract: the status by lengths, then the inner function, give the answer (`Exits`).
+-- Assumes nothing.
+use mathlib.Core.Path.{_≡_, sym, _∙_}
+use Prim.Native.Nat.{_≤_}
+use native.Mathlib.Omega.{arith}
+use borrow.Author.Needs.{needs}
+use denote.Ref.{now}
+use lib.ListN.{length}
+use lib.Seq.{length-take-le}
+use Rattle.noise_calls.proofs.Places.{value-fits}
+use Rattle.noise_calls.proofs.Exits.{choose-refused, choose-fits, choose-exit}
+use Rattle.noise_calls.proofs.choose.choose.Statement.{statement}
+use Rattle.noise_calls.proofs.choose.choose.Tie as tie
+
+parameters-requires : tie.Need-parameters-requires
+parameters-requires c κs = search needs
+
+noise-work-requires : tie.Need-noise-work-requires
+noise-work-requires c κs = search needs
+
+status-requires : tie.Need-status-requires
+status-requires c κs = search needs
+
+finish-requires : tie.Need-finish-requires
+finish-requires c κs = search needs
+
+same-length : tie.Need-same-length
+same-length c = search needs
+
+returns : tie.Need-returns
+returns c =
+    let refused = c .before .before in
+    let checked = refused .before .before .before in
+    let known = checked .before .before in
+    choose-refused _ _ _ _ _ _ _ (known .parameters .ensures .are) (checked .status .ensures) (refused .before .before .if1 .taken)
+    (checked .before .noise-work .ensures) (refused .finish .ensures)
+
+zeros-requires : tie.Need-zeros-requires
+zeros-requires c κs = search needs
+
+length-of-requires : tie.Need-length-of-requires
+length-of-requires c κs = search needs
+
+-- The room for b is long enough.
+fits : (c : tie.After-length-of) → c .length-of .result ≤ length (c .before .zeros .result)
+fits c =
+    let zeros : length (c .before .zeros .result) ≡ 3072 = search needs in
+    omega (arith, c .length-of .ensures .0, value-fits _ (c .before .before .before .before .before .parameters .ensures .well))
+
+array-borrow-prefix-b : tie.Need-array-borrow-prefix-b
+array-borrow-prefix-b c = fits c
+
+slice-aggregate-choose-fitting : tie.Need-slice-aggregate-choose-fitting
+slice-aggregate-choose-fitting c = sym (length-take-le _ _ (fits (c .before)))
+
+choose-fitting-requires : tie.Need-choose-fitting-requires
+choose-fitting-requires c κs =
+    let roomed = c .before .before .before in
+    let passed = roomed .before .before in
+    let checked = passed .before in
+    let known = checked .before .before in
+    let a = known .before .before .before .before .before .args in
+    choose-fits (a .set) _ (now (a .sk)) (now (a .message)) (now (a .list)) (now (a .work)) _
+    (known .parameters .ensures .are) (checked .status .ensures) _ (known .parameters .ensures .well) (passed .if1 .left)
+    (length-take-le _ _ (fits roomed) ∙ roomed .length-of .ensures .0)
+
+finish-requires-2 : tie.Need-finish-requires-2
+finish-requires-2 c κs = search needs
+
+same-length-2 : tie.Need-same-length-2
+same-length-2 c = search needs
+
+returns-2 : tie.Need-returns-2
+returns-2 c =
+    let wiped = c .before .before in
+    let chosen = wiped .before .before .before .before .before in
+    let passed = chosen .before .before .before .before .before .before in
+    let checked = passed .before in
+    let known = checked .before .before in
+    choose-exit _ _ _ _ _ _ _ (known .parameters .ensures .are) (checked .status .ensures) _ (passed .if1 .left)
+    (chosen .choose-fitting .ensures) (checked .before .noise-work .ensures) (chosen .choose-fitting .kept .1 .1 .1 .1 .1 .1 .0) (wiped .finish2 .ensures)
+
+pub choose-spec : {M : Type 1} → statement M
+choose-spec =
+    tie.close
+    (tie.spec
+    parameters-requires
+    noise-work-requires
+    status-requires
+    finish-requires
+    same-length
+    returns
+    zeros-requires
+    length-of-requires
+    array-borrow-prefix-b
+    slice-aggregate-choose-fitting
+    choose-fitting-requires
+    finish-requires-2
+    same-length-2
+    returns-2)
