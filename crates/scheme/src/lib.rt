@@ -4,6 +4,8 @@ ghost use mathlib.Core.Path.{_≡_};
 ghost use lib.ListN.{length};
 ghost use Rattle.hash.specs.Shake.{shake128, shake256};
 ghost use Rattle.encryption_calls.specs.Exits.{KeygenExit, EncryptExit, EncapsExit};
+ghost use Rattle.decryption_calls.specs.Exits.{DecryptExit, DecapsExit};
+ghost use Rattle.noise_calls.specs.Exits.{NoiseExit, ChooseExit};
 
 // Fills output with the first bytes of SHAKE128 of input.
 #[no_mangle]
@@ -54,6 +56,23 @@ pub extern "C" fn kindi_encrypt(
     encryption_calls::encrypt::encrypt(set, pk, coins, message, ct, work)
 }
 
+// Decrypts a ciphertext with a secret key.
+#[no_mangle]
+pub extern "C" fn kindi_decrypt(
+    set: u32,
+    sk: &[u8],
+    ct: &[u8],
+    coins: &mut [u8],
+    message: &mut [u8],
+    message_len: &mut usize,
+    work: &mut [u8],
+) -> u32
+    ensures { λ r. ⌜ DecryptExit set (now (sk .entry)) (now (ct .entry)) (now (coins .entry)) (now (message .entry))
+        (now (work .entry)) r (now (coins .exit)) (now (message .exit)) (now («message_len» .exit)) (now (work .exit)) ⌝ }
+{
+    decryption_calls::decrypt::decrypt(set, sk, ct, coins, message, message_len, work)
+}
+
 // Makes a shared key from coins, and the ciphertext that carries it under a public key.
 #[no_mangle]
 pub extern "C" fn kindi_encaps(
@@ -68,4 +87,52 @@ pub extern "C" fn kindi_encaps(
         (now (ct .entry)) (now (work .entry)) r (now (key .exit)) (now (ct .exit)) (now (work .exit)) ⌝ }
 {
     encryption_calls::encaps::encaps(set, pk, coins, key, ct, work)
+}
+
+// Makes the shared key again that a ciphertext carries.
+#[no_mangle]
+pub extern "C" fn kindi_decaps(
+    set: u32,
+    sk: &[u8],
+    ct: &[u8],
+    key: &mut [u8],
+    work: &mut [u8],
+) -> u32
+    ensures { λ r. ⌜ DecapsExit set (now (sk .entry)) (now (ct .entry)) (now (key .entry)) (now (work .entry))
+        r (now (key .exit)) (now (work .exit)) ⌝ }
+{
+    decryption_calls::decaps::decaps(set, sk, ct, key, work)
+}
+
+// Tells whether coins and a message are clear under a secret key, and the largest absolute value of their noise.
+#[no_mangle]
+pub extern "C" fn kindi_noise(
+    set: u32,
+    sk: &[u8],
+    coins: &[u8],
+    message: &[u8],
+    clear: &mut u32,
+    largest: &mut u32,
+    work: &mut [u8],
+) -> u32
+    ensures { λ r. ⌜ NoiseExit set (now (sk .entry)) (now (coins .entry)) (now (message .entry)) (now (work .entry))
+        r (now (clear .exit)) (now (largest .exit)) (now (work .exit)) ⌝ }
+{
+    noise_calls::measure::noise(set, sk, coins, message, clear, largest, work)
+}
+
+// Gives the place of clear coins in a list of 1 to 8.
+#[no_mangle]
+pub extern "C" fn kindi_choose(
+    set: u32,
+    sk: &[u8],
+    message: &[u8],
+    list: &[u8],
+    place: &mut u32,
+    work: &mut [u8],
+) -> u32
+    ensures { λ r. ⌜ ChooseExit set (now (sk .entry)) (now (message .entry)) (now (list .entry)) (now (work .entry))
+        r (now (place .exit)) (now (work .exit)) ⌝ }
+{
+    noise_calls::choose::choose(set, sk, message, list, place, work)
 }
