@@ -2,7 +2,7 @@
 use mathlib.Core.Path.{_≡_, sym, ap, _∙_}
 use mathlib.Core.List.{List}
 use Prim.Native.Nat.{ℕ, zero, suc, _+_, _-_, _*_, _/_, _%_, _^_, _≤_, _<_, suc-le-suc, zero-le}
-use native.Mathlib.Nat.{le-trans, lt-of-lt-of-le, mod-lt, pow-suc, mul-comm, mul-div-cancel, zero-mul, one-mul, mul-one, mul-le-mul, not-suc-le-zero}
+use native.Mathlib.Nat.{lt-of-lt-of-le, mod-lt, pow-suc, mul-comm, mul-div-cancel, zero-mul, one-mul, mul-one, mul-le-mul, not-suc-le-zero}
 use native.Mathlib.Omega.{arith}
 use lib.IntN.{pos, negℤ, natAbs, _+ℤ_, _-ℤ_, +ℤ-idl}
 use lib.Pow.{pow-pos, pow-mono, pow-add}
@@ -16,7 +16,7 @@ use Rattle.ring.proofs.Integers.{natAbs-add, natAbs-neg}
 use Rattle.ring.proofs.Sizes.{abs-centred, fits-abs}
 use Rattle.kindi.specs.declared.Params.{Params}
 use Rattle.kindi.specs.Params.{WellFormed, modulus, width, highWidth, lengthOf, storedLength}
-use Rattle.kindi.specs.Streams.{coefficient, smallIn, lowIn, firstIn, ephemeralBy}
+use Rattle.kindi.specs.Streams.{coefficient, smallIn, lowIn, ephemeralBy}
 use Rattle.kindi.proofs.Strings.{coefficient-below, tabulate-below, whole-bytes}
 use Rattle.noise.specs.Terms.{keyNoiseIn}
 use Rattle.noise.proofs.Products.{Sized}

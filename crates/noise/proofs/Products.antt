@@ -1,20 +1,20 @@
 -- Laws of sums of products over the integers that are added one by one: what is there after each, and that it fits 32 bits.
 -- Assumes nothing.
-use mathlib.Core.Path.{_≡_, refl, sym, ap, ap₂, _∙_}
+use mathlib.Core.Path.{_≡_, sym, ap, ap₂, _∙_}
 use mathlib.Core.List.{List}
-use Prim.Native.Nat.{ℕ, zero, suc, _+_, _*_, _^_, _≤_, _<_, suc-le-suc, zero-le}
-use native.Mathlib.Nat.{le-trans, le-refl, lt-of-le-of-lt, mul-le-mul, mul-le-mul-right, mul-assoc, suc-mul}
+use Prim.Native.Nat.{ℕ, _+_, _*_, _^_, _≤_, _<_}
+use native.Mathlib.Nat.{le-refl, mul-le-mul, mul-le-mul-right, mul-assoc, suc-mul}
 use native.Mathlib.Numerals.{add-one}
 use native.Mathlib.Omega.{arith}
-use lib.IntN.{ℤ, pos, negℤ, natAbs, _+ℤ_, _-ℤ_, +ℤ-idr, +ℤ-idl, +ℤ-assoc, +ℤ-comm}
-use lib.ListN.{length, getD, replicate}
+use lib.IntN.{ℤ, pos, negℤ, natAbs, _+ℤ_, +ℤ-idr, +ℤ-assoc}
+use lib.ListN.{length, replicate}
 use Rattle.hash.specs.Lists.{tabulate}
 use Rattle.hash.proofs.Entries.{tabulate-at, length-tabulate}
-use Rattle.bits.proofs.Filling.{tabulate-ext, tabulate-entries, tabulate-constant}
+use Rattle.bits.proofs.Filling.{tabulate-ext, tabulate-entries}
 use Rattle.ring.specs.Integers.{largest}
 use Rattle.ring.specs.Poly.{Poly, sum, mul, plus, minus, dot, ofInts}
 use Rattle.ring.specs.Coefficients.{Summable, withSignedProduct}
-use Rattle.ring.proofs.Integers.{natAbs-add, natAbs-neg, +ℤ-left-comm}
+use Rattle.ring.proofs.Integers.{natAbs-add, natAbs-neg}
 use Rattle.ring.proofs.Sums.{natAbs-sum}
 use Rattle.ring.proofs.Ring.{mul-ext, natAbs-mul-poly}
 use Rattle.ring.proofs.Sizes.{largest-le, le-largest, largest-zeros}

@@ -2,11 +2,11 @@
 -- there. Assumes nothing.
 use mathlib.Core.Path.{_≡_, refl, sym, ap, ap₂, _∙_}
 use mathlib.Core.List.{List, [], _∷_, _++_}
-use Prim.Native.Nat.{ℕ, _+_, _-_, _*_, _%_, _^_, _≤_, _<_}
+use Prim.Native.Nat.{ℕ, _+_, _-_, _%_, _^_, _≤_, _<_}
 use native.Mathlib.Nat.{add-assoc, add-sub-cancel-left}
 use native.Mathlib.Omega.{arith}
 use lib.IntN.{ℤ, pos, negℤ, _+ℤ_, _-ℤ_, +ℤ-idl, +ℤ-comm, +ℤ-assoc}
-use lib.ListN.{length, take, drop, getD, replicate, length-take, length-drop}
+use lib.ListN.{length, take, drop, replicate, length-take}
 use lib.Pow.{pow-pos}
 use lib.Seq.{take-at, take-add, drop-at, drop-drop}
 use Rattle.hash.specs.Lists.{tabulate}
@@ -14,7 +14,6 @@ use Rattle.hash.specs.Shake.{shake, xorInto}
 use Rattle.hash.proofs.Entries.{length-tabulate}
 use Rattle.hash.proofs.Parts.{patched, length-patched, take-rest}
 use Rattle.hash.proofs.Laws.{length-shake}
-use Rattle.bits.specs.Bits.{pack}
 use Rattle.bits.proofs.Filling.{tabulate-ext, tabulate-constant}
 use Rattle.ring.specs.Integers.{residue}
 use Rattle.ring.specs.Poly.{Poly, plus, minus, dot, ofInts, residues}
@@ -22,8 +21,8 @@ use Rattle.ring.proofs.Ring.{dot-ext}
 use Rattle.ring.proofs.Residues.{residues-at, residues-below, length-residues}
 use Rattle.kindi.specs.declared.Params.{Params}
 use Rattle.kindi.specs.Params.{WellFormed, modulus, storedLength, secretLength, lowLength, paddedLength, highLength, secretsLength, coinsStreamLength}
-use Rattle.kindi.specs.Streams.{coefficient, smallIn, lowIn, lowPart, keySecret, secret, mask, coinsStream, ephemeralBy, ephemeral}
-use Rattle.kindi.specs.Keys.{joined, public, publicPart, matrixSeed, secretSeed}
+use Rattle.kindi.specs.Streams.{coefficient, smallIn, lowIn, lowPart, keySecret, mask, coinsStream, ephemeralBy, ephemeral}
+use Rattle.kindi.specs.Keys.{public, publicPart, matrixSeed, secretSeed}
 use Rattle.kindi.specs.Encrypt.{masked, error}
 use Rattle.kindi.specs.Noise.{keyNoise, noise, noises}
 use Rattle.kindi.proofs.Padding.{length-masked}

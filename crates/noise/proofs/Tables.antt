@@ -1,17 +1,17 @@
 -- Laws of values and integers that are tables of a polynomial's coefficients. Assumes nothing.
-use mathlib.Core.Path.{_≡_, refl, sym, ap, ap₂, _∙_}
+use mathlib.Core.Path.{_≡_, refl, ap, ap₂, _∙_}
 use mathlib.Core.List.{List, _∷_}
-use Prim.Native.Nat.{ℕ, zero, suc, _+_, _-_, _*_, _%_, _^_, _≤_, _<_, suc-le-suc, zero-le}
+use Prim.Native.Nat.{ℕ, zero, suc, _+_, _-_, _*_, _%_, _^_, _≤_, _<_}
 use native.Mathlib.Nat.{not-suc-le-zero, le-of-suc-le-suc}
 use native.Mathlib.Omega.{arith}
 use lib.IntN.{pos, _+ℤ_, _-ℤ_}
 use lib.ListN.{length, getD, take, replicate, length-take}
 use Rattle.hash.specs.Lists.{tabulate}
 use Rattle.hash.proofs.Entries.{tabulate-at, length-tabulate}
-use Rattle.bits.specs.Bits.{Below, lowBits}
+use Rattle.bits.specs.Bits.{lowBits}
 use Rattle.bits.proofs.Filling.{tabulate-ext, map-tabulate}
 use Rattle.ring.specs.Integers.{centred, residue}
-use Rattle.ring.specs.Poly.{Poly, ofNats, plus, residues}
+use Rattle.ring.specs.Poly.{residues}
 use Rattle.ring.specs.Coefficients.{added, centredIntegers}
 use Rattle.ring.proofs.Modular.{residue-small}
 use Rattle.kindi.specs.declared.Params.{Params}

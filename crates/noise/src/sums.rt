@@ -162,8 +162,9 @@ pub fn sizes(p: Params, b: &[u8], coins: &[u8], streams: &[u8]) -> Measured
     );
     let end = quarter(p);
     let clear = signed::all_between(&acc[..n], 0 - end, end);
+    let largest = signed::largest(&acc[..n]);
     Measured {
         clear: clear,
-        largest: signed::largest(&acc[..n]),
+        largest: largest,
     }
 }

@@ -1,19 +1,17 @@
 -- `noise::measure` meets its contract.
 -- Assumes nothing.
 use mathlib.Core.Path.{_≡_, sym, ap, ap₂, _∙_}
-use mathlib.Core.Bool.{Bool}
 use mathlib.Core.List.{List, _++_}
 use Prim.Native.Nat.{ℕ, _+_, _-_, _≤_}
 use native.Mathlib.Omega.{arith}
 use borrow.Author.Needs.{needs}
 use denote.Ref.{now}
-use lib.IntN.{ℤ}
 use lib.ListN.{length, take, drop, length-take, length-append}
 use Rattle.hash.specs.Shake.{shake}
 use Rattle.hash.proofs.Laws.{length-shake}
 use Rattle.hash.proofs.Parts.{patched}
 use Rattle.ring.specs.Integers.{largest}
-use Rattle.kindi.specs.Params.{modulus, lengthOf, secretsLength, coinsStreamLength}
+use Rattle.kindi.specs.Params.{modulus, secretsLength, coinsStreamLength}
 use Rattle.kindi.specs.Keys.{secretSeed}
 use Rattle.kindi.specs.Noise.{inside, clear}
 use Rattle.kindi.specs.Answers.{clearUnder, largestUnder}

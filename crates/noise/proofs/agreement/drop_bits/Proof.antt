@@ -1,12 +1,10 @@
 -- `noise::agreement::drop_bits` meets its contract.
 -- Assumes nothing.
-use mathlib.Core.Path.{_≡_, ap, _∙_}
+use mathlib.Core.Path.{ap, _∙_}
 use Prim.Native.Nat.{ℕ, _*_, _-_}
-use native.Mathlib.Nat.{le-refl}
 use native.Mathlib.Omega.{arith}
 use borrow.Author.Needs.{needs}
 use denote.Ref.{now}
-use Rattle.kindi.specs.Params.{lengthOf}
 use Rattle.kindi.proofs.Strings.{whole-bytes}
 use Rattle.pke.proofs.Amounts.{reads}
 use Rattle.noise.proofs.Agreeing.{dropped-is}

@@ -54,7 +54,11 @@ key-noise-at-requires : tie.Need-key-noise-at-requires Inv-loop μ-loop
 key-noise-at-requires c κs =
     let pre = c .before .before .before .before .before .before .before .before .before .before .pre in
     let k = c .before .before .before .before .loop .k in
-    (pre .first-small k, omega (arith, c .before .before .before .before .before .power .ensures, half-power (c .before .before .before .before .before .before .before .before .before .before .args .p) (pre .well)), pre .second-small k, omega (arith, pre .well .small-secrets), pre .third-small k)
+    let w = pre .first-small k in
+    let r = pre .second-small k in
+    let low = pre .third-small k in
+    let half = half-power (c .before .before .before .before .before .before .before .before .before .before .args .p) (pre .well) in
+    (omega arith, omega (arith, c .before .before .before .before .before .power .ensures), omega arith, omega (arith, pre .well .small-secrets), omega arith)
 
 mul-t20 : tie.Need-mul-t20 Inv-loop μ-loop
 mul-t20 c = omega arith

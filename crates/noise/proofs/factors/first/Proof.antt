@@ -3,7 +3,7 @@
 use mathlib.Core.Path.{_≡_, sym}
 use Prim.Native.Nat.{_-_}
 use borrow.Author.Needs.{needs}
-use lib.ListN.{length, take}
+use lib.ListN.{length}
 use Rattle.noise.proofs.Tables.{prefix-long}
 use Rattle.noise.proofs.factors.first.Statement.{statement}
 use Rattle.noise.proofs.factors.first.Tie as tie

@@ -2,7 +2,7 @@
 -- Assumes nothing.
 use mathlib.Core.Path.{_≡_, sym, ap, _∙_}
 use mathlib.Core.List.{List}
-use Prim.Native.Nat.{ℕ, _+_, _-_, _^_, _≤_}
+use Prim.Native.Nat.{ℕ, _+_, _-_, _≤_}
 use native.Mathlib.Omega.{arith}
 use borrow.Author.Needs.{needs}
 use denote.Ref.{now}
@@ -40,7 +40,7 @@ errors-small c =
 last-small : (c : tie.After-small) → largest (c .small .last .1 .1 .1 .0) ≤ 64
 last-small c =
     let p = c .before .before .before .before .before .before .before .before .before .before .before .before .before .before .before .before .before .before .args .p in
-    rw (c .small .ensures) (largest-table (p .n) 64 (smallIn p _ (p .l)) (small-sized p (c .before .before .before .before .before .before .before .before .before .before .before .before .before .before .before .before .before .before .pre .0 .well) _ (p .l)))
+    rw (c .small .ensures) (largest-table (p .n) 64 _ (small-sized p (c .before .before .before .before .before .before .before .before .before .before .before .before .before .before .before .before .before .before .pre .0 .well) _ _))
 
 low-requires : tie.Need-low-requires
 low-requires c κs = search needs

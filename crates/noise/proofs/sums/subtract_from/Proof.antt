@@ -1,10 +1,10 @@
 -- `noise::sums::subtract_from` meets its contract: after k turns the first k coefficients are subtracted.
 -- Assumes nothing.
-use mathlib.Core.Path.{_≡_, refl, sym, ap, ap₂, _∙_}
+use mathlib.Core.Path.{_≡_, refl, ap₂, _∙_}
 use Prim.Native.Nat.{_-_, _≤_}
 use native.Mathlib.Omega.{arith}
 use denote.Ref.{now}
-use lib.IntN.{ℤ, pos, _-ℤ_}
+use lib.IntN.{pos, _-ℤ_}
 use lib.ListN.{length, getD, length-set}
 use mir.Syntax.{w16, w32}
 use mir.Val.{toZ, ofZ}
