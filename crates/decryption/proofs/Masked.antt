@@ -20,7 +20,7 @@ use Rattle.ring.proofs.Integers.{ring}
 use Rattle.ring.proofs.Modular.{cong-refl, cong-of-eq, cong-trans, cong-add, cong-sub, residue-cong}
 use Rattle.ring.proofs.Residues.{residues-cong, residues-at, residues-below, length-residues}
 use Rattle.kindi.specs.declared.Params.{Params}
-use Rattle.kindi.specs.Params.{WellFormed, modulus, width, lengthOf, matrixLength, lowLength, paddedLength, coinsStreamLength, encryptWork}
+use Rattle.kindi.specs.Params.{WellFormed, modulus, width, lengthOf, storedLength, matrixLength, lowLength, paddedLength, coinsStreamLength, encryptWork}
 use Rattle.kindi.specs.Streams.{coefficient, smallIn, mask, coinsStream}
 use Rattle.kindi.specs.Keys.{joined, matrixSeed, publicPart, secretSeed}
 use Rattle.kindi.specs.Encrypt.{noiseless}
@@ -58,6 +58,19 @@ lowBits-joined : (w m : ℕ) (f : ℕ → List ℕ) → lowBits w (joined m f) �
 unfolding joined lowBits
 lowBits-joined w zero f = refl
 lowBits-joined w (suc m) f = lowBits-append w (joined m f) (f m) ∙ ap (λ (l : List ℕ). l ++ lowBits w (f m)) (lowBits-joined w m f)
+
+-- ---- the secret key
+
+-- The public key and the secret seed in it.
+pub public-taken : (P : Params) (sk : List ℕ) {s : ℕ} → s ≡ storedLength P → take (s + P .seed) sk ≡ publicPart P sk
+unfolding publicPart
+public-taken P sk e = ap (λ (i : ℕ). take (i + P .seed) sk) e
+
+pub seed-taken : (P : Params) (sk : List ℕ) {s : ℕ} → s ≡ storedLength P
+    → take (s + P .seed + P .seed - (s + P .seed)) (drop (s + P .seed) sk) ≡ secretSeed P sk
+unfolding secretSeed
+seed-taken P sk {s} e =
+    ap₂ (λ (i j : ℕ). take i (drop j sk)) (add-sub-cancel-left (s + P .seed) (P .seed)) (ap (λ (i : ℕ). i + P .seed) e)
 
 -- ---- the encryption
 

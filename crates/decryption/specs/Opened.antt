@@ -13,9 +13,9 @@ use Rattle.ring.specs.Poly.{Poly, plus, minus, dot, residues}
 use Rattle.kindi.specs.declared.Params.{Params}
 use Rattle.kindi.specs.Params.{WellFormed, modulus, width, secretLength, ciphertextLength, paddedLength, matrixLength, lowLength, decryptWork}
 use Rattle.kindi.specs.Streams.{coefficient, smallIn, mask}
-use Rattle.kindi.specs.Keys.{joined, publicPart, secretSeed}
+use Rattle.kindi.specs.Keys.{joined, publicPart}
 use Rattle.kindi.specs.Encrypt.{noiseless}
-use Rattle.kindi.specs.Decrypt.{cipherPart, roundedBit, roundedCoins, remainders, errorsFit}
+use Rattle.kindi.specs.Decrypt.{cipherPart, roundedBit, remainders, errorsFit}
 
 -- V = D − sum of C_j·r_j, for any r.
 abbrev pub valueBy : Params → List ℕ → (ℕ → Poly) → Poly
@@ -43,7 +43,7 @@ leftOver P ct made m j = residues (modulus P) (P .n) (leftPoly P ct made m j)
 unfoldable pub opened : Params → List ℕ → List ℕ → List ℕ → List ℕ
 opened P pk coins ct = xorInto (mask P coins) (pack (width P) (lowBits (width P) (remainders P pk coins ct)))
 
--- The arguments of `open`.
+-- The arguments of `recover_coins` and of `open`.
 pub record OpenRoom (P : Params) (sk ct coins work : List ℕ) : Type 0 where
   pub well : WellFormed P
   pub secret-long : length sk ≡ secretLength P
@@ -51,8 +51,7 @@ pub record OpenRoom (P : Params) (sk ct coins work : List ℕ) : Type 0 where
   pub coins-long : length coins ≡ P .coins
   pub work-long : decryptWork P ≤ length work
 
--- What it leaves: the recovered coins, whether every error fits, and the padded message in the mask's place.
-pub record OpenExit (P : Params) (sk ct : List ℕ) (fits : Bool) (coins work : List ℕ) : Type 0 where
-  pub coins-are : coins ≡ roundedCoins P (secretSeed P sk) ct
+-- What `open` leaves with these coins: whether every error fits, and the padded message in the mask's place.
+pub record OpenExit (P : Params) (sk ct coins : List ℕ) (fits : Bool) (work : List ℕ) : Type 0 where
   pub fits-is : fits ≡ errorsFit (P .p) (remainders P (publicPart P sk) coins ct)
   pub padded-is : take (paddedLength P) (drop (matrixLength P + lowLength P) work) ≡ opened P (publicPart P sk) coins ct

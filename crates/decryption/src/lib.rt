@@ -7,8 +7,9 @@ ghost use mathlib.Core.List.{_++_};
 ghost use lib.ListN.{take};
 ghost use Rattle.hash.specs.Shake.{shake as Shake·shake};
 ghost use Rattle.kindi.specs.Params.{matrixLength, encryptWork};
-ghost use Rattle.kindi.specs.Keys.{matrixSeed};
+ghost use Rattle.kindi.specs.Keys.{matrixSeed, secretSeed};
 ghost use Rattle.kindi.specs.Streams.{coinsStream};
+ghost use Rattle.kindi.specs.Decrypt.{roundedCoins};
 ghost use Rattle.decryption.specs.Opened.{OpenRoom, OpenExit, maskCipher};
 ghost use Rattle.decryption.specs.Inputs.{MakeRoom};
 use kindi::Params;
@@ -34,17 +35,26 @@ fn encrypt_mask(p: Params, pk: &[u8], coins: &[u8], made: &mut [u8], work: &mut 
     pke::encrypt::assemble(p, pk, coins, &work[..need], made);
 }
 
-// Writes the recovered coins, leaves the padded message in the mask's place of the work area, and answers
-// whether every error fits.
-pub fn open(p: Params, sk: &[u8], ct: &[u8], coins: &mut [u8], work: &mut [u8]) -> bool
+// The recovered coins of a secret key and a ciphertext. It stands apart from `open`, and both have two callers, so that
+// the compiler keeps them apart and their arrays do not lie on the stack together.
+pub fn recover_coins(p: Params, sk: &[u8], ct: &[u8], coins: &mut [u8], work: &mut [u8])
     requires { ⌜ OpenRoom p (now sk) (now ct) (now coins) (now work) ⌝ }
-    ensures { λ r. ⌜ OpenExit p (now (sk .entry)) (now (ct .entry)) r (now (coins .exit)) (now (work .exit)) ⌝ }
+    ensures { λ _. ⌜ now (coins .exit) ≡ roundedCoins p (secretSeed p (now (sk .entry))) (now (ct .entry)) ⌝ }
 {
     let public = lengths::stored(p) + p.seed;
     let end = public + p.seed;
+    recover::recover_coins(p, &sk[public..end], ct, coins, work);
+}
+
+// Leaves the padded message that a ciphertext has with these coins in the mask's place of the work area, and answers
+// whether every error fits.
+pub fn open(p: Params, sk: &[u8], ct: &[u8], coins: &[u8], work: &mut [u8]) -> bool
+    requires { ⌜ OpenRoom p (now sk) (now ct) (now coins) (now work) ⌝ }
+    ensures { λ r. ⌜ OpenExit p (now (sk .entry)) (now (ct .entry)) (now (coins .entry)) r (now (work .exit)) ⌝ }
+{
+    let public = lengths::stored(p) + p.seed;
     let cipher = lengths::ciphertext(p);
     let mut made = zeros();
-    recover::recover_coins(p, &sk[public..end], ct, coins, work);
     encrypt_mask(p, &sk[..public], coins, &mut made[..cipher], work);
     remainders::unmask(p, ct, &made[..cipher], work)
 }

@@ -73,8 +73,8 @@ pub fn recover_coins(p: Params, gamma: &[u8], ct: &[u8], coins: &mut [u8], work:
     let need = lengths::length_of(p, p.l, lengths::width(p));
     let mut r = vectors::zeros();
     let mut f = vectors::zeros();
-    let mut d = vectors::zeros();
-    let mut v = vectors::zeros();
+    let mut d = vectors::polynomial();
+    let mut v = vectors::polynomial();
     hash::shake(p.rate, gamma, &mut work[..need]);
     coins_from(
         p,

@@ -11,10 +11,7 @@ ghost use Rattle.decryption.specs.Opened.{leftOver};
 ghost use Rattle.decryption.specs.Inputs.{RemainderRoom, RemaindersRoom, UnmaskRoom};
 use kindi::Params;
 use pke::lengths;
-
-fn zeros() -> [u16; 512] {
-    [0; 512]
-}
+use pke::vectors;
 
 fn bytes() -> [u8; 1024] {
     [0; 1024]
@@ -96,8 +93,8 @@ pub fn unmask(p: Params, ct: &[u8], made: &[u8], work: &mut [u8]) -> bool
     let at = lengths::matrix(p) + lengths::low(p);
     let padded = lengths::padded(p);
     let end = at + padded;
-    let mut u = zeros();
-    let mut t = zeros();
+    let mut u = vectors::polynomial();
+    let mut t = vectors::polynomial();
     let mut packed = bytes();
     let fits = remainders(
         p,

@@ -13,9 +13,9 @@ use Rattle.hash.specs.Shake.{xorInto}
 use Rattle.hash.proofs.Parts.{length-xorInto, patched}
 use Rattle.kindi.specs.declared.Params.{Params}
 use Rattle.kindi.specs.Params.{WellFormed, paddedLength, matrixLength, lowLength}
-use Rattle.kindi.specs.Keys.{publicPart}
+use Rattle.kindi.specs.Keys.{publicPart, secretSeed}
 use Rattle.kindi.specs.Encrypt.{padded}
-use Rattle.kindi.specs.Decrypt.{unmasked, blank, marked, other, ending}
+use Rattle.kindi.specs.Decrypt.{roundedCoins, unmasked, blank, marked, other, ending}
 use Rattle.kindi.specs.Kem.{digest, sharedKey}
 use Rattle.kindi.specs.Answers.{answered, refuseIf, plain, same, Plain}
 use Rattle.kindi.specs.Calls.{messageOutput}
@@ -64,7 +64,7 @@ marked-within P xs mark len long e h one =
 
 -- What the code has: the padded message lies in the work area, from m + l on, d bytes.
 module _ (P : Params) (well : WellFormed P) (sk ct found work : List ℕ) (fits : Bool) (m l d : ℕ)
-    (exit : OpenExit P sk ct fits found work) (em : m ≡ matrixLength P) (el : l ≡ lowLength P) (ed : d ≡ paddedLength P) where
+    (are : found ≡ roundedCoins P (secretSeed P sk) ct) (exit : OpenExit P sk ct found fits work) (em : m ≡ matrixLength P) (el : l ≡ lowLength P) (ed : d ≡ paddedLength P) where
   abbrev part : List ℕ
   part = take (m + l + d - (m + l)) (drop (m + l) work)
 
@@ -87,7 +87,7 @@ module _ (P : Params) (well : WellFormed P) (sk ct found work : List ℕ) (fits 
     message-checked : Checked (decryptFitting P sk ct) (answered (record { coins = found; message = take len part })) status
     unfolding decryptFitting
     message-checked =
-        rw (second, first, ← exit .coins-are, ← exit .fits-is)
+        rw (second, first, ← are, ← exit .fits-is)
         (check-before (not fits) 5 (omega arith) (λ fit.
         rw (← part-unmasked fit, ends, plain-ending found part mark len) (check-first (not (eqb mark 1)) 6 (omega arith) unchecked)))
 
@@ -138,7 +138,7 @@ part-patched a k ys xs e h =
 
 -- The same where the digest's padded message has been added to the one in the work area.
 module _ (P : Params) (well : WellFormed P) (sk ct found work : List ℕ) (fits : Bool) (m l d : ℕ)
-    (exit : OpenExit P sk ct fits found work) (em : m ≡ matrixLength P) (el : l ≡ lowLength P) (ed : d ≡ paddedLength P)
+    (are : found ≡ roundedCoins P (secretSeed P sk) ct) (exit : OpenExit P sk ct found fits work) (em : m ≡ matrixLength P) (el : l ≡ lowLength P) (ed : d ≡ paddedLength P)
     (h added : List ℕ) {equal : Bool} {differs status : ℕ} (is-h : h ≡ digest P found)
     (is-added : added ≡ xorInto (take (m + l + d - (m + l)) (drop (m + l) work)) (h ++ (1 ∷ [])))
     (is-equal : equal ≡ allZero (take (m + l + d - (m + l)) (drop (m + l) (patched (m + l) (m + l + d - (m + l)) added work))))
@@ -146,7 +146,7 @@ module _ (P : Params) (well : WellFormed P) (sk ct found work : List ℕ) (fits 
   -- What is read back is what was added.
   read-back : take (m + l + d - (m + l)) (drop (m + l) (patched (m + l) (m + l + d - (m + l)) added work)) ≡ added
   read-back =
-      let long = part-long P well sk ct found work fits m l d exit em el ed in
+      let long = part-long P well sk ct found work fits m l d are exit em el ed in
       let count : length added ≡ m + l + d - (m + l) = ap length is-added ∙ length-xorInto _ _ ∙ long ∙ omega arith in
       part-patched (m + l) (m + l + d - (m + l)) added work count
       (omega (arith, well .digest-fits, simp (length-take, length-drop) at long))
@@ -155,15 +155,15 @@ module _ (P : Params) (well : WellFormed P) (sk ct found work : List ℕ) (fits 
   key-checked : Checked (decapsFitting P sk ct) (answered (sharedKey P found ct)) status
   unfolding decapsFitting
   key-checked =
-      let its = part P well sk ct found work fits m l d exit em el ed in
+      let its = part P well sk ct found work fits m l d are exit em el ed in
       let short : length (digest P found) < paddedLength P = rw (length-digest P found) (well .digest-fits) in
       let same-is : same its (padded P (digest P found)) ≡ equal =
-      same-padded P its (digest P found) (part-long P well sk ct found work fits m l d exit em el ed) short
+      same-padded P its (digest P found) (part-long P well sk ct found work fits m l d are exit em el ed) short
       ∙ ap (λ (x : List ℕ). allZero (xorInto its (x ++ (1 ∷ [])))) (sym is-h) ∙ ap allZero (sym is-added ∙ sym read-back) ∙ sym is-equal
       in
-      rw (second, first, ← exit .coins-are, ← exit .fits-is)
+      rw (second, first, ← are, ← exit .fits-is)
       (check-before (not fits) 5 (omega arith) (λ fit.
-      rw (← part-unmasked P well sk ct found work fits m l d exit em el ed fit, same-is) (check-first (not equal) 7 (omega arith) unchecked)))
+      rw (← part-unmasked P well sk ct found work fits m l d are exit em el ed fit, same-is) (check-first (not equal) 7 (omega arith) unchecked)))
 
   -- A refusal.
   pub key-refused : (key : List ℕ) → (status ≡ 0 → ⊥) → KeyExit (decapsFitting P sk ct) key status key

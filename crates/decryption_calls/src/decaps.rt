@@ -38,6 +38,7 @@ fn open_key(
     requires { ⌜ KeyRoom p (now sk) (now ct) (now found) (now d) (now key) (now work) ⌝ }
     ensures { λ r. ⌜ KeyExit (decapsFitting p (now (sk .entry)) (now (ct .entry))) (now (key .entry)) r (now (key .exit)) ⌝ }
 {
+    decryption::recover_coins(p, sk, ct, found, work);
     let fits = decryption::open(p, sk, ct, found, work);
     kem::digest(p, found, d);
     let at = lengths::matrix(p) + lengths::low(p);

@@ -52,6 +52,7 @@ fn open_message(
     ensures { λ r. ⌜ MessageExit (decryptFitting p (now (sk .entry)) (now (ct .entry))) (now (coins .entry)) (now (message .entry))
         r (now (coins .exit)) (now (message .exit)) (now («message_len» .exit)) ⌝ }
 {
+    decryption::recover_coins(p, sk, ct, found, work);
     let fits = decryption::open(p, sk, ct, found, work);
     let at = lengths::matrix(p) + lengths::low(p);
     let end = at + lengths::padded(p);

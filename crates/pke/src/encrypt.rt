@@ -153,7 +153,7 @@ fn ephemeral(p: Params, coins: &[u8], high: &[u8], rest: &[u8], s: &mut [u16])
         ++ vector (p .l - 1) (p .n) (smallIn p (now (rest .entry))) ⌝ }
 {
     let n = p.n;
-    let mut h = vectors::zeros();
+    let mut h = vectors::polynomial();
     first(p, coins, high, &mut h[..n], &mut s[..n]);
     vectors::small(lengths::width(p), rest, p.p, &mut s[n..]);
 }
@@ -171,7 +171,7 @@ pub fn assemble(p: Params, pk: &[u8], coins: &[u8], streams: &[u8], dst: &mut [u
     let rest = end + lengths::high(p);
     let mut s = vectors::zeros();
     let mut f = vectors::zeros();
-    let mut acc = vectors::zeros();
+    let mut acc = vectors::polynomial();
     ephemeral(
         p,
         coins,

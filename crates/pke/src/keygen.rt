@@ -86,7 +86,7 @@ pub fn public_polynomials(p: Params, t: u32, streams: &[u8], dst: &mut [u8])
     let matrix = lengths::matrix(p);
     let mut r = vectors::zeros();
     let mut f = vectors::zeros();
-    let mut acc = vectors::zeros();
+    let mut acc = vectors::polynomial();
     vectors::small(lengths::width(p), &streams[matrix..], p.p, &mut r[..vector]);
     public_parts(
         p,

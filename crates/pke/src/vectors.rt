@@ -14,8 +14,13 @@ use kindi::Params;
 use product::dot_add;
 use ring::poly::centre;
 
+// Room for a vector, and for one polynomial.
 pub fn zeros() -> [u16; 1536] {
     [0; 1536]
+}
+
+pub fn polynomial() -> [u16; 512] {
+    [0; 512]
 }
 
 pub fn power(i: u32) -> u16

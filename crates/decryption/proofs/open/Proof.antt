@@ -1,19 +1,18 @@
--- `decryption::open` meets its contract: the recovered coins, the encryption with their mask, and what is left beside it.
+-- `decryption::open` meets its contract: the encryption with the mask of the coins, and what is left beside it.
 -- Assumes nothing.
-use Rattle.decryption.proofs.Masked.{left-all, left-opened, mask-there}
+use Rattle.decryption.proofs.Masked.{public-taken, left-all, left-opened, mask-there}
 use Rattle.decryption.specs.Opened.{leftOver, maskCipher}
 use Rattle.pke.proofs.Amounts.{begun-length}
-use Rattle.kindi.specs.Params.{width, matrixLength, lowLength, paddedLength, publicLength, encryptWork}
-use Rattle.kindi.specs.Keys.{joined, matrixSeed, publicPart, secretSeed}
-use Rattle.kindi.specs.Streams.{mask, coinsStream}
-use Rattle.kindi.specs.Decrypt.{errorsFit, roundedCoins}
+use Rattle.kindi.specs.Params.{width, matrixLength, lowLength, paddedLength, publicLength}
+use Rattle.kindi.specs.Keys.{joined, matrixSeed, publicPart}
+use Rattle.kindi.specs.Streams.{mask}
+use Rattle.kindi.specs.Decrypt.{errorsFit}
 use Rattle.bits.specs.Bits.{pack, lowBits}
 use Rattle.hash.specs.Shake.{shake, xorInto}
 use Rattle.hash.proofs.Laws.{length-shake}
 use lib.ListN.{length, take, drop, length-take}
 use lib.Seq.{take-at}
-use Prim.Native.Nat.{ℕ, _+_, _-_, _≤_}
-use native.Mathlib.Nat.{add-sub-cancel-left}
+use Prim.Native.Nat.{ℕ, _+_, _≤_}
 use denote.Ref.{now}
 use native.Mathlib.Omega.{arith}
 use mathlib.Core.List.{List, _++_}
@@ -28,39 +27,13 @@ stored-requires c κs = search needs
 add-public : tie.Need-add-public
 add-public c = search needs
 
-add-end : tie.Need-add-end
-add-end c = search needs
-
 ciphertext-requires : tie.Need-ciphertext-requires
 ciphertext-requires c κs = search needs
 
 zeros-requires : tie.Need-zeros-requires
 zeros-requires c κs = search needs
 
-sub-recover-coins : tie.Need-sub-recover-coins
-sub-recover-coins c = search needs
-
-part-recover-coins-start : tie.Need-part-recover-coins-start
-part-recover-coins-start c = search needs
-
-part-recover-coins-end : tie.Need-part-recover-coins-end
-part-recover-coins-end c = search needs
-
-recover-coins-requires : tie.Need-recover-coins-requires
-recover-coins-requires c κs = search needs
-
--- The public key and the secret seed in the secret key.
-public-is : (c : tie.After-stored) → c .stored .result + c .before .before .before .before .before .args .p .seed ≡ publicLength (c .before .before .before .before .before .args .p)
-public-is c = ap (λ (i : ℕ). i + c .before .before .before .before .before .args .p .seed) (c .stored .ensures .0)
-
-public-part : (c : tie.After-stored) → take (c .stored .result + c .before .before .before .before .before .args .p .seed) (now (c .before .before .before .before .before .args .sk)) ≡ publicPart (c .before .before .before .before .before .args .p) (now (c .before .before .before .before .before .args .sk))
-unfolding publicPart
-public-part c = ap (λ (i : ℕ). take i (now (c .before .before .before .before .before .args .sk))) (public-is c)
-
-seed-part : (c : tie.After-stored) → take (c .stored .result + c .before .before .before .before .before .args .p .seed + c .before .before .before .before .before .args .p .seed - (c .stored .result + c .before .before .before .before .before .args .p .seed)) (drop (c .stored .result + c .before .before .before .before .before .args .p .seed) (now (c .before .before .before .before .before .args .sk))) ≡ secretSeed (c .before .before .before .before .before .args .p) (now (c .before .before .before .before .before .args .sk))
-unfolding secretSeed
-seed-part c = ap₂ (λ (i j : ℕ). take i (drop j (now (c .before .before .before .before .before .args .sk)))) (add-sub-cancel-left (c .stored .result + c .before .before .before .before .before .args .p .seed) (c .before .before .before .before .before .args .p .seed)) (public-is c)
-
+-- The public key has its length.
 public-long : (c : tie.After-stored) → length (take (c .stored .result + c .before .before .before .before .before .args .p .seed) (now (c .before .before .before .before .before .args .sk))) ≡ c .stored .result + c .before .before .before .before .before .args .p .seed
 public-long c = simp length-take (omega (arith, c .stored .ensures .0, c .before .before .before .before .before .pre .secret-long))
 
@@ -68,76 +41,72 @@ public-long c = simp length-take (omega (arith, c .stored .ensures .0, c .before
 fresh : (c : tie.After-zeros) → length (take (c .before .ciphertext .result) (c .zeros .result)) ≡ c .before .ciphertext .result
 fresh c =
     let zeros : length (c .zeros .result) ≡ 4096 = search needs in
-    simp length-take (omega (arith, c .before .ciphertext .ensures .0, c .before .before .before .before .before .before .before .before .before .pre .well .cipher-fits))
+    simp length-take (omega (arith, c .before .ciphertext .ensures .0, c .before .before .before .before .before .before .before .before .pre .well .cipher-fits))
 
-made-long : (c : tie.After-encrypt-mask) → length (c .encrypt-mask .last .1 .1 .1 .0) ≡ c .before .before .before .before .before .before .before .before .before .before .before .before .before .before .ciphertext .result
-made-long c = c .encrypt-mask .kept .1 .1 .1 .0 ∙ fresh (c .before .before .before .before .before .before .before .before .before .before .before .before .before)
+made-long : (c : tie.After-encrypt-mask) → length (c .encrypt-mask .last .1 .1 .1 .0) ≡ c .before .before .before .before .before .ciphertext .result
+made-long c = c .encrypt-mask .kept .1 .1 .1 .0 ∙ fresh (c .before .before .before .before)
 
-made-is : (c : tie.After-encrypt-mask) → take (c .before .before .before .before .before .before .before .before .before .before .before .before .before .before .ciphertext .result) (c .encrypt-mask .last .1 .1 .1 .0 ++ drop (c .before .before .before .before .before .before .before .before .before .before .before .before .before .before .ciphertext .result) (c .before .before .before .before .before .before .before .before .before .before .before .before .before .zeros .result)) ≡ c .encrypt-mask .last .1 .1 .1 .0
-made-is c = take-at (c .encrypt-mask .last .1 .1 .1 .0) (drop (c .before .before .before .before .before .before .before .before .before .before .before .before .before .before .ciphertext .result) (c .before .before .before .before .before .before .before .before .before .before .before .before .before .zeros .result)) (c .before .before .before .before .before .before .before .before .before .before .before .before .before .before .ciphertext .result) (made-long c)
+made-is : (c : tie.After-encrypt-mask) → take (c .before .before .before .before .before .ciphertext .result) (c .encrypt-mask .last .1 .1 .1 .0 ++ drop (c .before .before .before .before .before .ciphertext .result) (c .before .before .before .before .zeros .result)) ≡ c .encrypt-mask .last .1 .1 .1 .0
+made-is c = take-at (c .encrypt-mask .last .1 .1 .1 .0) (drop (c .before .before .before .before .before .ciphertext .result) (c .before .before .before .before .zeros .result)) (c .before .before .before .before .before .ciphertext .result) (made-long c)
 
 slice-aggregate-encrypt-mask : tie.Need-slice-aggregate-encrypt-mask
-slice-aggregate-encrypt-mask c = sym (public-long (c .before .before .before .before .before .before .before .before .before .before .before .before .before))
+slice-aggregate-encrypt-mask c = sym (public-long (c .before .before .before .before))
 
 array-borrow-prefix-made : tie.Need-array-borrow-prefix-made
 array-borrow-prefix-made c = search needs
 
 slice-aggregate-encrypt-mask-2 : tie.Need-slice-aggregate-encrypt-mask-2
-slice-aggregate-encrypt-mask-2 c = sym (fresh (c .before .before .before .before .before .before .before .before .before .before .before))
+slice-aggregate-encrypt-mask-2 c = sym (fresh (c .before .before))
 
 encrypt-mask-requires : tie.Need-encrypt-mask-requires
 encrypt-mask-requires c κs =
-    let pre = c .before .before .before .before .before .before .before .before .before .before .before .before .before .before .before .before .before .before .before .before .before .pre in
+    let pre = c .before .before .before .before .before .before .before .before .before .before .before .pre in
     record {
       well = pre .well;
-      public-long = public-long (c .before .before .before .before .before .before .before .before .before .before .before .before .before .before .before .before) ∙ public-is (c .before .before .before .before .before .before .before .before .before .before .before .before .before .before .before .before);
-      coins-long = c .before .before .before .before .before .before .before .before .recover-coins .kept .1 .1 .1 .0 ∙ pre .coins-long;
-      made-long = fresh (c .before .before .before .before .before .before .before .before .before .before .before .before) ∙ c .before .before .before .before .before .before .before .before .before .before .before .before .before .ciphertext .ensures .0;
-      work-long = omega (arith, c .before .before .before .before .before .before .before .before .recover-coins .kept .1 .1 .1 .1 .0, pre .work-long);
+      public-long = public-long (c .before .before .before .before .before .before) ∙ ap (λ (i : ℕ). i + c .before .before .before .before .before .before .before .before .before .before .before .args .p .seed) (c .before .before .before .before .before .before .stored .ensures .0);
+      coins-long = pre .coins-long;
+      made-long = fresh (c .before .before .before) ∙ c .before .before .before .before .ciphertext .ensures .0;
+      work-long = pre .work-long;
     }
 
 array-share-prefix-made : tie.Need-array-share-prefix-made
 array-share-prefix-made c =
-    let zeros : length (c .before .before .before .before .before .before .before .before .before .before .before .before .before .before .before .before .zeros .result) ≡ 4096 = search needs in
-    let fits : c .before .before .before .before .before .before .before .before .before .before .before .before .before .before .before .before .before .ciphertext .result ≤ 4096 = omega (arith, c .before .before .before .before .before .before .before .before .before .before .before .before .before .before .before .before .before .ciphertext .ensures .0, c .before .before .before .before .before .before .before .before .before .before .before .before .before .before .before .before .before .before .before .before .before .before .before .before .before .pre .well .cipher-fits) in
-    omega (arith, begun-length (c .before .before .before .before .before .before .before .before .before .before .before .before .before .before .before .before .before .ciphertext .result) (c .before .before .before .encrypt-mask .last .1 .1 .1 .0) (c .before .before .before .before .before .before .before .before .before .before .before .before .before .before .before .before .zeros .result) (made-long (c .before .before .before)) zeros fits)
+    let zeros : length (c .before .before .before .before .before .before .before .zeros .result) ≡ 4096 = search needs in
+    let fits : c .before .before .before .before .before .before .before .before .ciphertext .result ≤ 4096 = omega (arith, c .before .before .before .before .before .before .before .before .ciphertext .ensures .0, c .before .before .before .before .before .before .before .before .before .before .before .before .before .before .before .pre .well .cipher-fits) in
+    omega (arith, begun-length (c .before .before .before .before .before .before .before .before .ciphertext .result) (c .before .before .before .encrypt-mask .last .1 .1 .1 .0) (c .before .before .before .before .before .before .before .zeros .result) (made-long (c .before .before .before)) zeros fits)
 
 slice-aggregate-unmask : tie.Need-slice-aggregate-unmask
 slice-aggregate-unmask c = sym (ap length (made-is (c .before .before .before .before)) ∙ made-long (c .before .before .before .before))
 
 unmask-requires : tie.Need-unmask-requires
 unmask-requires c κs =
-    let pre = c .before .before .before .before .before .before .before .before .before .before .before .before .before .before .before .before .before .before .before .before .before .before .before .before .before .before .before .pre in
+    let pre = c .before .before .before .before .before .before .before .before .before .before .before .before .before .before .before .before .before .pre in
     record {
       well = pre .well;
       cipher-long = pre .cipher-long;
-      made-long = ap length (made-is (c .before .before .before .before .before)) ∙ made-long (c .before .before .before .before .before) ∙ c .before .before .before .before .before .before .before .before .before .before .before .before .before .before .before .before .before .before .before .ciphertext .ensures .0;
-      work-long = omega (arith, c .before .before .before .before .before .encrypt-mask .kept .1 .1 .1 .1 .0, c .before .before .before .before .before .before .before .before .before .before .before .before .before .before .recover-coins .kept .1 .1 .1 .1 .0, pre .work-long);
+      made-long = ap length (made-is (c .before .before .before .before .before)) ∙ made-long (c .before .before .before .before .before) ∙ c .before .before .before .before .before .before .before .before .before .before .ciphertext .ensures .0;
+      work-long = omega (arith, c .before .before .before .before .before .encrypt-mask .kept .1 .1 .1 .1 .0, pre .work-long);
     }
 
 same-length : tie.Need-same-length
 same-length c = search needs
 
-same-length-2 : tie.Need-same-length-2
-same-length-2 c = search needs
-
 returns : tie.Need-returns
 returns c =
-    let a = c .before .before .before .before .before .before .before .before .before .before .before .before .before .before .before .before .before .before .before .before .before .before .before .before .before .before .before .before .before .before .args in
+    let a = c .before .before .before .before .before .before .before .before .before .before .before .before .before .before .before .before .before .before .before .before .args in
     let p = a .p in
-    let W = c .before .before .before .before .before .before .before .before .before .before .before .before .before .before .before .before .before .before .before .before .before .before .before .before .before .before .before .before .before .before .pre .well in
+    let W = c .before .before .before .before .before .before .before .before .before .before .before .before .before .before .before .before .before .before .before .before .pre .well in
     let sk = now (a .sk) in
     let ct = now (a .ct) in
     let pk : List ℕ = publicPart p sk in
-    let coins : List ℕ = c .before .before .before .before .before .before .before .before .before .before .before .before .before .before .before .before .before .recover-coins .last .1 .1 .1 .0 in
+    let coins = now (a .coins) in
     let work : List ℕ = c .before .before .before .before .before .before .before .before .encrypt-mask .last .1 .1 .1 .1 .0 in
-    let rows : List ℕ = shake (p .rate) (matrixSeed p (take (c .before .before .before .before .before .before .before .before .before .before .before .before .before .before .before .before .before .before .before .before .before .before .before .before .before .stored .result + p .seed) sk)) (matrixLength p) in
-    let made : take (c .before .before .before .before .before .before .before .before .before .before .before .before .before .before .before .before .before .before .before .before .before .before .ciphertext .result) (c .before .before .before .before .before .before .before .before .encrypt-mask .last .1 .1 .1 .0 ++ drop (c .before .before .before .before .before .before .before .before .before .before .before .before .before .before .before .before .before .before .before .before .before .before .ciphertext .result) (c .before .before .before .before .before .before .before .before .before .before .before .before .before .before .before .before .before .before .before .before .before .zeros .result)) ≡ maskCipher p pk coins
-    = made-is (c .before .before .before .before .before .before .before .before) ∙ c .before .before .before .before .before .before .before .before .encrypt-mask .ensures .0 ∙ ap (λ (l : List ℕ). maskCipher p l coins) (public-part (c .before .before .before .before .before .before .before .before .before .before .before .before .before .before .before .before .before .before .before .before .before .before .before .before .before)) in
+    let seed : List ℕ = matrixSeed p (take (c .before .before .before .before .before .before .before .before .before .before .before .before .before .before .before .stored .result + p .seed) sk) in
+    let made : take (c .before .before .before .before .before .before .before .before .before .before .before .before .before .ciphertext .result) (c .before .before .before .before .before .before .before .before .encrypt-mask .last .1 .1 .1 .0 ++ drop (c .before .before .before .before .before .before .before .before .before .before .before .before .before .ciphertext .result) (c .before .before .before .before .before .before .before .before .before .before .before .before .zeros .result)) ≡ maskCipher p pk coins
+    = made-is (c .before .before .before .before .before .before .before .before) ∙ c .before .before .before .before .before .before .before .before .encrypt-mask .ensures .0 ∙ ap (λ (l : List ℕ). maskCipher p l coins) (public-taken p sk (c .before .before .before .before .before .before .before .before .before .before .before .before .before .before .before .stored .ensures .0)) in
     let there : take (paddedLength p) (drop (matrixLength p + lowLength p) work) ≡ mask p coins
-    = mask-there p rows coins work (length-shake (p .rate) (matrixSeed p (take (c .before .before .before .before .before .before .before .before .before .before .before .before .before .before .before .before .before .before .before .before .before .before .before .before .before .stored .result + p .seed) sk)) (matrixLength p)) (c .before .before .before .before .before .before .before .before .encrypt-mask .ensures .1) in
+    = mask-there p (shake (p .rate) seed (matrixLength p)) coins work (length-shake (p .rate) seed (matrixLength p)) (c .before .before .before .before .before .before .before .before .encrypt-mask .ensures .1) in
     record {
-      coins-are = c .before .before .before .before .before .before .before .before .before .before .before .before .before .before .before .before .before .recover-coins .ensures ∙ ap (λ (g : List ℕ). roundedCoins p g ct) (seed-part (c .before .before .before .before .before .before .before .before .before .before .before .before .before .before .before .before .before .before .before .before .before .before .before .before .before));
       fits-is = c .before .before .unmask .ensures .0 ∙ ap₂ (λ (m l : List ℕ). errorsFit (p .p) (joined (p .l + 1) (leftOver p ct m l))) made there
           ∙ ap (errorsFit (p .p)) (left-all p W pk coins ct);
       padded-is = c .before .before .unmask .ensures .1
@@ -151,13 +120,8 @@ open-spec =
     (tie.spec
     stored-requires
     add-public
-    add-end
     ciphertext-requires
     zeros-requires
-    sub-recover-coins
-    part-recover-coins-start
-    part-recover-coins-end
-    recover-coins-requires
     slice-aggregate-encrypt-mask
     array-borrow-prefix-made
     slice-aggregate-encrypt-mask-2
@@ -166,5 +130,4 @@ open-spec =
     slice-aggregate-unmask
     unmask-requires
     same-length
-    same-length-2
     returns)

@@ -31,11 +31,11 @@ zeros-requires c κs = search needs
 zeros-requires-2 : tie.Need-zeros-requires-2
 zeros-requires-2 c κs = search needs
 
-zeros-requires-3 : tie.Need-zeros-requires-3
-zeros-requires-3 c κs = search needs
+polynomial-requires : tie.Need-polynomial-requires
+polynomial-requires c κs = search needs
 
-zeros-requires-4 : tie.Need-zeros-requires-4
-zeros-requires-4 c κs = search needs
+polynomial-requires-2 : tie.Need-polynomial-requires-2
+polynomial-requires-2 c κs = search needs
 
 -- The bytes of the secret vector, which fit the work area; the work area once they are there.
 need-is : (c : tie.After-length-of) → c .length-of .result ≡ lengthOf (c .before .before .before .before .before .before .before .args .p) (c .before .before .before .before .before .before .before .args .p .l) (width (c .before .before .before .before .before .before .before .args .p))
@@ -92,7 +92,7 @@ array-borrow-prefix-d c = search needs
 
 slice-aggregate-coins-from-4 : tie.Need-slice-aggregate-coins-from-4
 slice-aggregate-coins-from-4 c =
-    let zeros : length (c .before .before .before .before .before .before .before .before .before .zeros3 .result) ≡ 1536 = search needs in
+    let zeros : length (c .before .before .before .before .before .before .before .before .before .polynomial .result) ≡ 512 = search needs in
     simp length-take (omega (arith, c .before .before .before .before .before .before .before .before .before .before .before .before .before .before .before .before .before .before .before .pre .well .short))
 
 array-borrow-prefix-v : tie.Need-array-borrow-prefix-v
@@ -100,7 +100,7 @@ array-borrow-prefix-v c = search needs
 
 slice-aggregate-coins-from-5 : tie.Need-slice-aggregate-coins-from-5
 slice-aggregate-coins-from-5 c =
-    let zeros : length (c .before .before .before .before .before .before .before .before .before .zeros4 .result) ≡ 1536 = search needs in
+    let zeros : length (c .before .before .before .before .before .before .before .before .before .polynomial2 .result) ≡ 512 = search needs in
     simp length-take (omega (arith, c .before .before .before .before .before .before .before .before .before .before .before .before .before .before .before .before .before .before .before .before .pre .well .short))
 
 coins-from-requires : tie.Need-coins-from-requires
@@ -109,8 +109,8 @@ coins-from-requires c κs =
     let W = pre .well in
     let zeros : length (c .before .before .before .before .before .before .before .before .before .before .before .before .before .zeros .result) ≡ 1536 = search needs in
     let zeros2 : length (c .before .before .before .before .before .before .before .before .before .before .before .before .zeros2 .result) ≡ 1536 = search needs in
-    let zeros3 : length (c .before .before .before .before .before .before .before .before .before .before .before .zeros3 .result) ≡ 1536 = search needs in
-    let zeros4 : length (c .before .before .before .before .before .before .before .before .before .before .zeros4 .result) ≡ 1536 = search needs in
+    let zeros3 : length (c .before .before .before .before .before .before .before .before .before .before .before .polynomial .result) ≡ 512 = search needs in
+    let zeros4 : length (c .before .before .before .before .before .before .before .before .before .before .polynomial2 .result) ≡ 512 = search needs in
     record {
       room = record {
         well = W;
@@ -147,8 +147,8 @@ recover-coins-spec =
     length-of-requires
     zeros-requires
     zeros-requires-2
-    zeros-requires-3
-    zeros-requires-4
+    polynomial-requires
+    polynomial-requires-2
     slice-relend-prefix-shake
     slice-aggregate-shake
     shake-requires

@@ -35,11 +35,11 @@ padded-requires c κs = search needs
 add-end : tie.Need-add-end
 add-end c = search needs
 
-zeros-requires : tie.Need-zeros-requires
-zeros-requires c κs = search needs
+polynomial-requires : tie.Need-polynomial-requires
+polynomial-requires c κs = search needs
 
-zeros-requires-2 : tie.Need-zeros-requires-2
-zeros-requires-2 c κs = search needs
+polynomial-requires-2 : tie.Need-polynomial-requires-2
+polynomial-requires-2 c κs = search needs
 
 bytes-requires : tie.Need-bytes-requires
 bytes-requires c κs = search needs
@@ -81,7 +81,7 @@ packed-is c = take-at (c .remainders .last .1 .1 .1 .1 .1 .1 .0) (drop (c .befor
 
 slice-aggregate-remainders : tie.Need-slice-aggregate-remainders
 slice-aggregate-remainders c =
-    let zeros : length (c .before .before .before .before .before .zeros .result) ≡ 512 = search needs in
+    let zeros : length (c .before .before .before .before .before .polynomial .result) ≡ 512 = search needs in
     simp length-take (omega (arith, c .before .before .before .before .before .before .before .before .before .before .before .before .pre .well .short))
 
 array-borrow-prefix-t : tie.Need-array-borrow-prefix-t
@@ -89,7 +89,7 @@ array-borrow-prefix-t c = search needs
 
 slice-aggregate-remainders-2 : tie.Need-slice-aggregate-remainders-2
 slice-aggregate-remainders-2 c =
-    let zeros : length (c .before .before .before .before .before .zeros2 .result) ≡ 512 = search needs in
+    let zeros : length (c .before .before .before .before .before .polynomial2 .result) ≡ 512 = search needs in
     simp length-take (omega (arith, c .before .before .before .before .before .before .before .before .before .before .before .before .before .pre .well .short))
 
 array-borrow-prefix-packed : tie.Need-array-borrow-prefix-packed
@@ -102,8 +102,8 @@ remainders-requires : tie.Need-remainders-requires
 remainders-requires c κs =
     let pre = c .before .before .before .before .before .before .before .before .before .before .before .before .before .before .pre in
     let W = pre .well in
-    let zeros : length (c .before .before .before .before .before .before .before .zeros .result) ≡ 512 = search needs in
-    let zeros2 : length (c .before .before .before .before .before .before .zeros2 .result) ≡ 512 = search needs in
+    let zeros : length (c .before .before .before .before .before .before .before .polynomial .result) ≡ 512 = search needs in
+    let zeros2 : length (c .before .before .before .before .before .before .polynomial2 .result) ≡ 512 = search needs in
     record {
       well = W;
       cipher-long = pre .cipher-long;
@@ -162,8 +162,8 @@ unmask-spec =
     add-at
     padded-requires
     add-end
-    zeros-requires
-    zeros-requires-2
+    polynomial-requires
+    polynomial-requires-2
     bytes-requires
     sub-remainders
     part-remainders-start

@@ -1,5 +1,6 @@
 -- `decryption_calls::decrypt::open_message` meets its contract: the last checks give the answer's number (`Fitted`).
 -- Assumes nothing.
+use mathlib.Core.Path.{sym, _∙_}
 use native.Mathlib.Omega.{arith}
 use borrow.Author.Needs.{needs}
 use denote.Ref.{now}
@@ -7,6 +8,9 @@ use lib.ListN.{length-take, length-drop}
 use Rattle.decryption_calls.proofs.Fitted.{message-refused, message-short, message-answered}
 use Rattle.decryption_calls.proofs.decrypt.open_message.Statement.{statement}
 use Rattle.decryption_calls.proofs.decrypt.open_message.Tie as tie
+
+recover-coins-requires : tie.Need-recover-coins-requires
+recover-coins-requires c κs = search needs
 
 open-requires : tie.Need-open-requires
 open-requires c κs = search needs
@@ -55,15 +59,16 @@ returns c =
     let checked = c .before in
     let ended = checked .before .before .before in
     let placed = ended .before .before .before in
-    let opened = placed .before .before .before .before .before .before .before in
-    let a = opened .before .before .before .before .before .before .before .before .before .args in
-    let pre = opened .before .before .before .before .before .before .before .before .before .pre in
-    message-refused (a .p) (pre .room .well) (now (a .sk)) (now (a .ct)) _ _ _ _ _ _ (opened .«open» .ensures)
+    let opened = placed .before .before .before .before .before in
+    let recovered = opened .before .before .before .before .before .before .before in
+    let a = recovered .before .before .before .before .before .before .before .before .before .args in
+    let pre = recovered .before .before .before .before .before .before .before .before .before .pre in
+    message-refused (a .p) (pre .room .well) (now (a .sk)) (now (a .ct)) _ _ _ _ _ _ (recovered .recover-coins .ensures) (opened .«open» .ensures)
     (placed .before .before .matrix .ensures .0) (placed .before .low .ensures .0) (placed .padded .ensures .0)
     _ _ (ended .ending .ensures .0) (checked .before .refuse-if .ensures) (checked .refuse-if2 .ensures) _ _ (c .if1 .taken)
 
 copy-requires : tie.Need-copy-requires
-copy-requires c κs = search needs
+copy-requires c κs = c .before .before .before .before .before .before .before .before .before .before .before .before .before .before .before .before .before .before .before .before .before .before .before .before .before .before .before .before .before .before .pre .coins-long ∙ sym (c .before .before .before .before .before .before .before .before .before .before .before .before .before .before .before .before .before .before .before .before .before .recover-coins .kept .1 .1 .1 .0 ∙ c .before .before .before .before .before .before .before .before .before .before .before .before .before .before .before .before .before .before .before .before .before .before .before .before .before .before .before .before .before .before .pre .room .coins-long)
 
 add-write-message : tie.Need-add-write-message
 add-write-message c = search needs
@@ -78,13 +83,15 @@ part-write-message-end : tie.Need-part-write-message-end
 part-write-message-end c =
     let ended = c .before .before .before .before .before .before .before .before .before .before in
     let placed = ended .before .before .before in
-    let opened = placed .before .before .before .before .before .before .before in
-    let pre = opened .before .before .before .before .before .before .before .before .before .pre in
+    let opened = placed .before .before .before .before .before in
+    let recovered = opened .before .before .before .before .before .before .before in
+    let pre = recovered .before .before .before .before .before .before .before .before .before .pre in
     let short = simp (length-take, length-drop) at (ended .ending .ensures .1) in
     omega (
       arith,
       pre .room .work-long,
       opened .«open» .kept .1 .1 .1 .1 .0,
+      recovered .recover-coins .kept .1 .1 .1 .1 .0,
       placed .before .before .matrix .ensures .0,
       placed .before .low .ensures .0,
       placed .padded .ensures .0,
@@ -96,11 +103,12 @@ write-message-requires c κs =
     let checked = passed .before in
     let ended = checked .before .before .before in
     let placed = ended .before .before .before in
-    let opened = placed .before .before .before .before .before .before .before in
-    let a = opened .before .before .before .before .before .before .before .before .before .args in
-    let pre = opened .before .before .before .before .before .before .before .before .before .pre in
+    let opened = placed .before .before .before .before .before in
+    let recovered = opened .before .before .before .before .before .before .before in
+    let a = recovered .before .before .before .before .before .before .before .before .before .args in
+    let pre = recovered .before .before .before .before .before .before .before .before .before .pre in
     let short =
-    message-short (a .p) (pre .room .well) (now (a .sk)) (now (a .ct)) _ _ _ _ _ _ (opened .«open» .ensures)
+    message-short (a .p) (pre .room .well) (now (a .sk)) (now (a .ct)) _ _ _ _ _ _ (recovered .recover-coins .ensures) (opened .«open» .ensures)
     (placed .before .before .matrix .ensures .0) (placed .before .low .ensures .0) (placed .padded .ensures .0)
     _ _ (ended .ending .ensures .0) (checked .before .refuse-if .ensures) (checked .refuse-if2 .ensures)
     (ended .ending .ensures .1) (passed .if1 .left)
@@ -127,10 +135,11 @@ returns-2 c =
     let checked = passed .before in
     let ended = checked .before .before .before in
     let placed = ended .before .before .before in
-    let opened = placed .before .before .before .before .before .before .before in
-    let a = opened .before .before .before .before .before .before .before .before .before .args in
-    let pre = opened .before .before .before .before .before .before .before .before .before .pre in
-    message-answered (a .p) (pre .room .well) (now (a .sk)) (now (a .ct)) _ _ _ _ _ _ (opened .«open» .ensures)
+    let opened = placed .before .before .before .before .before in
+    let recovered = opened .before .before .before .before .before .before .before in
+    let a = recovered .before .before .before .before .before .before .before .before .before .args in
+    let pre = recovered .before .before .before .before .before .before .before .before .before .pre in
+    message-answered (a .p) (pre .room .well) (now (a .sk)) (now (a .ct)) _ _ _ _ _ _ (recovered .recover-coins .ensures) (opened .«open» .ensures)
     (placed .before .before .matrix .ensures .0) (placed .before .low .ensures .0) (placed .padded .ensures .0)
     _ _ (ended .ending .ensures .0) (checked .before .refuse-if .ensures) (checked .refuse-if2 .ensures) _ _
     (ended .ending .ensures .1) (passed .if1 .left) (copied .copy .ensures) (written .write-message .ensures)
@@ -139,6 +148,7 @@ pub open-message-spec : {M : Type 1} → statement M
 open-message-spec =
     tie.close
     (tie.spec
+    recover-coins-requires
     open-requires
     matrix-requires
     low-requires

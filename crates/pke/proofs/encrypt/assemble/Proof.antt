@@ -44,8 +44,8 @@ zeros-requires c κs = search needs
 zeros-requires-2 : tie.Need-zeros-requires-2
 zeros-requires-2 c κs = search needs
 
-zeros-requires-3 : tie.Need-zeros-requires-3
-zeros-requires-3 c κs = search needs
+polynomial-requires : tie.Need-polynomial-requires
+polynomial-requires c κs = search needs
 
 sub-ephemeral : tie.Need-sub-ephemeral
 sub-ephemeral c = search needs
@@ -171,7 +171,7 @@ slice-aggregate-cipher-parts-4 c =
     let p = a .p in
     let pre = c .before .before .before .before .before .before .before .before .before .before .before .before .before .before .before .before .before .before .before .before .before .before .before .pre in
     let W = pre .well in
-    let zeros3 : length (c .before .before .before .before .before .before .before .before .before .before .before .zeros3 .result) ≡ 1536 = search needs in
+    let room : length (c .before .before .before .before .before .before .before .before .before .before .before .polynomial .result) ≡ 512 = search needs in
     simp length-take (omega (arith, W .short))
 
 cipher-parts-requires : tie.Need-cipher-parts-requires
@@ -182,7 +182,7 @@ cipher-parts-requires c κs =
     let W = pre .well in
     let zeros : length (c .before .before .before .before .before .before .before .before .before .before .before .before .before .before .zeros .result) ≡ 1536 = search needs in
     let zeros2 : length (c .before .before .before .before .before .before .before .before .before .before .before .before .before .zeros2 .result) ≡ 1536 = search needs in
-    let zeros3 : length (c .before .before .before .before .before .before .before .before .before .before .before .before .zeros3 .result) ≡ 1536 = search needs in
+    let room : length (c .before .before .before .before .before .before .before .before .before .before .before .before .polynomial .result) ≡ 512 = search needs in
     let ys = c .before .before .before .before .before .before .before .before .ephemeral .last .1 .1 .1 .1 .0 in
     let fresh : length (take (p .l * p .n) (c .before .before .before .before .before .before .before .before .before .before .before .before .before .before .zeros .result)) ≡ p .l * p .n = simp length-take (omega (arith, W .vector)) in
     let ly : length ys ≡ p .l * p .n = c .before .before .before .before .before .before .before .before .ephemeral .kept .1 .1 .1 .1 .0 ∙ fresh in
@@ -248,7 +248,7 @@ assemble-spec =
     add-rest
     zeros-requires
     zeros-requires-2
-    zeros-requires-3
+    polynomial-requires
     sub-ephemeral
     part-ephemeral-start
     part-ephemeral-end

@@ -17,16 +17,16 @@ use borrow.Author.Needs.{needs}
 use Rattle.pke.proofs.encrypt.ephemeral.Statement.{statement}
 use Rattle.pke.proofs.encrypt.ephemeral.Tie as tie
 
-zeros-requires : tie.Need-zeros-requires
-zeros-requires c κs = search needs
+polynomial-requires : tie.Need-polynomial-requires
+polynomial-requires c κs = search needs
 
 array-borrow-prefix-h : tie.Need-array-borrow-prefix-h
 array-borrow-prefix-h c = search needs
 
 -- The parts that `first` fills.
-zeros-part : (c : tie.After-zeros) → length (take (c .before .before .before .before .before .args .p .n) (c .zeros .result)) ≡ c .before .before .before .before .before .args .p .n
-zeros-part c =
-    let zeros : length (c .zeros .result) ≡ 1536 = search needs in
+room-part : (c : tie.After-polynomial) → length (take (c .before .before .before .before .before .args .p .n) (c .polynomial .result)) ≡ c .before .before .before .before .before .args .p .n
+room-part c =
+    let room : length (c .polynomial .result) ≡ 512 = search needs in
     simp length-take (omega (arith, c .before .before .before .before .before .pre .well .short))
 
 secret-part : (c : tie.Start) → length (take (c .args .p .n) (now (c .args .s))) ≡ c .args .p .n
@@ -51,7 +51,7 @@ rest-part c =
     simp (length-take, length-drop) (rw (sym (rest-size (p .l) (p .n) (W .some-polynomials))) (omega (arith, begins p W, begun-size c)))
 
 slice-aggregate-first : tie.Need-slice-aggregate-first
-slice-aggregate-first c = sym (zeros-part (c .before))
+slice-aggregate-first c = sym (room-part (c .before))
 
 slice-relend-prefix-first : tie.Need-slice-relend-prefix-first
 slice-relend-prefix-first c = omega (arith, begins (c .before .before .before .before .before .before .args .p) (c .before .before .before .before .before .before .pre .well), c .before .before .before .before .before .before .pre .secret-long)
@@ -60,7 +60,7 @@ slice-aggregate-first-2 : tie.Need-slice-aggregate-first-2
 slice-aggregate-first-2 c = sym (secret-part (c .before .before .before .before .before .before .before))
 
 first-requires : tie.Need-first-requires
-first-requires c κs = (c .before .before .before .before .before .before .before .pre .well, c .before .before .before .before .before .before .before .pre .coins-long, c .before .before .before .before .before .before .before .pre .high-there, zeros-part (c .before .before), secret-part (c .before .before .before .before .before .before .before))
+first-requires c κs = (c .before .before .before .before .before .before .before .pre .well, c .before .before .before .before .before .before .before .pre .coins-long, c .before .before .before .before .before .before .before .pre .high-there, room-part (c .before .before), secret-part (c .before .before .before .before .before .before .before))
 
 width-requires : tie.Need-width-requires
 width-requires c κs = search needs
@@ -99,7 +99,7 @@ pub ephemeral-spec : {M : Type 1} → statement M
 ephemeral-spec =
     tie.close
     (tie.spec
-    zeros-requires
+    polynomial-requires
     array-borrow-prefix-h
     slice-aggregate-first
     slice-relend-prefix-first

@@ -27,8 +27,8 @@ zeros-requires c κs = search needs
 zeros-requires-2 : tie.Need-zeros-requires-2
 zeros-requires-2 c κs = search needs
 
-zeros-requires-3 : tie.Need-zeros-requires-3
-zeros-requires-3 c κs = search needs
+polynomial-requires : tie.Need-polynomial-requires
+polynomial-requires c κs = search needs
 
 width-requires : tie.Need-width-requires
 width-requires c κs = search needs
@@ -131,8 +131,8 @@ slice-aggregate-public-parts-4 c =
     let p = a .p in
     let pre = c .before .before .before .before .before .before .before .before .before .before .before .before .before .before .before .before .before .pre in
     let W = pre .0 in
-    let taken : length (take (p .n) (c .before .before .before .before .before .before .before .before .before .before .zeros3 .result)) ≡ p .n =
-    let long : length (c .before .before .before .before .before .before .before .before .before .before .zeros3 .result) ≡ 1536 = search needs in
+    let taken : length (take (p .n) (c .before .before .before .before .before .before .before .before .before .before .polynomial .result)) ≡ p .n =
+    let long : length (c .before .before .before .before .before .before .before .before .before .before .polynomial .result) ≡ 512 = search needs in
     simp length-take (omega (arith, long, W .short)) in
     sym taken
 
@@ -148,8 +148,8 @@ public-parts-requires c κs =
     let room : length (take (p .l * p .n) (c .before .before .before .before .before .before .before .before .before .before .before .before .zeros2 .result)) ≡ p .l * p .n =
     let long : length (c .before .before .before .before .before .before .before .before .before .before .before .before .zeros2 .result) ≡ 1536 = search needs in
     simp length-take (omega (arith, long, W .vector)) in
-    let sum-room : length (take (p .n) (c .before .before .before .before .before .before .before .before .before .before .before .zeros3 .result)) ≡ p .n =
-    let long : length (c .before .before .before .before .before .before .before .before .before .before .before .zeros3 .result) ≡ 1536 = search needs in
+    let sum-room : length (take (p .n) (c .before .before .before .before .before .before .before .before .before .before .before .polynomial .result)) ≡ p .n =
+    let long : length (c .before .before .before .before .before .before .before .before .before .before .before .polynomial .result) ≡ 512 = search needs in
     simp length-take (omega (arith, long, W .short)) in
     let streams = now (a .streams) in
     let m : ℕ = c .before .before .before .before .before .before .before .before .before .before .before .before .before .before .matrix .result in
@@ -188,7 +188,7 @@ public-polynomials-spec =
     matrix-requires
     zeros-requires
     zeros-requires-2
-    zeros-requires-3
+    polynomial-requires
     width-requires
     sub-small
     part-small-start
