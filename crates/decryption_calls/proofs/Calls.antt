@@ -1,15 +1,15 @@
 -- The checks of lengths of decrypt and decaps: where their status is 0, the lengths are what the inner function asks, and the
 -- answer is the one for lengths that fit. Assumes nothing.
-use mathlib.Core.Path.{_≡_, ap, _∙_}
-use mathlib.Core.Bool.{Bool, true, cond, not, _&&_}
+use mathlib.Core.Path.{_≡_}
+use mathlib.Core.Bool.{true, cond, not, _&&_}
 use mathlib.Core.List.{List}
 use Prim.Native.Nat.{ℕ, _-_, _≤_}
 use native.Mathlib.Omega.{arith}
 use borrow.Author.Tests.{ltb-false, not-false}
-use lib.Dec.{eqb, leb, ltb}
+use lib.Dec.{eqb, leb}
 use lib.ListN.{length}
 use Rattle.kindi.specs.declared.Params.{Params}
-use Rattle.kindi.specs.Params.{WellFormed, isSet, ofSet, secretLength, ciphertextLength, paddedLength, decryptWork}
+use Rattle.kindi.specs.Params.{isSet, ofSet, secretLength, ciphertextLength, paddedLength, decryptWork}
 use Rattle.kindi.specs.Answers.{differs, recoveredCoins, decrypt, decaps}
 use Rattle.kindi.specs.Calls.{inSet, decryptCall, decapsCall}
 use Rattle.kindi.proofs.Chains.{same-length}

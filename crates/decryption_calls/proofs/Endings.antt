@@ -14,7 +14,7 @@ use Rattle.hash.proofs.Parts.{xorInto-nothing, patched, patched-rest}
 use Rattle.kindi.specs.declared.Params.{Params}
 use Rattle.kindi.specs.Params.{paddedLength}
 use Rattle.kindi.specs.Encrypt.{padded}
-use Rattle.kindi.specs.Decrypt.{Ending, blank, marked, other, after, ending}
+use Rattle.kindi.specs.Decrypt.{Ending, marked, other, after, ending}
 use Rattle.kindi.specs.Answers.{same}
 use Rattle.kindi.specs.Calls.{messageOutput}
 use Rattle.kindi.proofs.Padding.{xor-twice}

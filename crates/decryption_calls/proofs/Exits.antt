@@ -1,6 +1,6 @@
 -- The two exits of each call: what the code knows of its parameters, its status and what the inner function leaves gives what
 -- the call ensures; and before that, what the inner function asks. Assumes nothing.
-use mathlib.Core.Path.{_≡_, sym, ap, _∙_}
+use mathlib.Core.Path.{_≡_, sym, _∙_}
 use mathlib.Core.List.{List}
 use Prim.Native.Nat.{ℕ, _≤_}
 use native.Mathlib.Omega.{arith}

@@ -1,16 +1,15 @@
 -- The checks of lengths of noise and choose: where their status is 0, the lengths are what the inner function asks, and the
 -- answer is the one for lengths that fit. Assumes nothing.
 use mathlib.Core.Path.{_≡_}
-use mathlib.Core.Bool.{true, cond, not}
+use mathlib.Core.Bool.{true, not}
 use mathlib.Core.List.{List}
 use Prim.Native.Nat.{ℕ, _≤_, _<_}
 use native.Mathlib.Omega.{arith}
 use borrow.Author.Tests.{ltb-false, leb-false, not-false}
-use lib.Dec.{leb}
 use lib.ListN.{length}
 use Rattle.kindi.specs.declared.Params.{Params}
 use Rattle.kindi.specs.Params.{isSet, ofSet, secretLength, paddedLength, noiseWork}
-use Rattle.kindi.specs.Answers.{differs, noiseOf, choose, isList, coinsCount}
+use Rattle.kindi.specs.Answers.{noiseOf, choose, isList, coinsCount}
 use Rattle.kindi.specs.Calls.{inSet, noiseCall, chooseCall}
 use Rattle.kindi.proofs.Chains.{same-length}
 use Rattle.encryption_calls.proofs.Ends.{too-short}

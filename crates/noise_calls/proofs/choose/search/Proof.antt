@@ -1,11 +1,11 @@
 -- `noise_calls::choose::search` meets its contract: after i turns it is known of the first i coins whether some are clear.
 -- Assumes nothing.
 use mathlib.Core.Path.{_≡_, refl, _∙_}
-use Prim.Native.Nat.{ℕ, _+_, _-_, _*_, _/_, _≤_}
+use Prim.Native.Nat.{_+_, _-_, _≤_}
 use native.Mathlib.Omega.{arith}
 use borrow.Author.Needs.{needs}
 use denote.Ref.{now}
-use lib.ListN.{length, take, drop}
+use lib.ListN.{length}
 use Rattle.noise_calls.proofs.Places.{Searching, search-starts, search-goes-on, search-ends, search-count, coins-there, search-room}
 use Rattle.noise_calls.proofs.choose.search.Statement.{statement}
 use Rattle.noise_calls.proofs.choose.search.Tie as tie
