@@ -15,8 +15,8 @@ ghost use Rattle.decryption.specs.Inputs.{MakeRoom};
 use kindi::Params;
 use pke::lengths;
 
-fn zeros() -> [u8; 4096] {
-    [0; 4096]
+fn zeros() -> [u8; 3584] {
+    [0; 3584]
 }
 
 // Fills work with the matrix and the stream of the coins, and encrypts with the mask as it is.

@@ -117,7 +117,7 @@ pub record WellFormed (P : Params) : Type 0 where
   pub short : P .n ≤ 512
   pub few : P .l ≤ 8
   pub vector : P .l * P .n ≤ 1536
-  pub cipher-fits : ciphertextLength P ≤ 4096
+  pub cipher-fits : ciphertextLength P ≤ 3584
   pub padded-fits : paddedLength P ≤ 1024
   -- what keeps the noise within 32 bits
   pub small-secrets : P .p ≤ 64

@@ -40,7 +40,7 @@ public-long c = simp length-take (omega (arith, c .stored .ensures .0, c .before
 -- The ciphertext that is made.
 fresh : (c : tie.After-zeros) → length (take (c .before .ciphertext .result) (c .zeros .result)) ≡ c .before .ciphertext .result
 fresh c =
-    let zeros : length (c .zeros .result) ≡ 4096 = search needs in
+    let zeros : length (c .zeros .result) ≡ 3584 = search needs in
     simp length-take (omega (arith, c .before .ciphertext .ensures .0, c .before .before .before .before .before .before .before .before .pre .well .cipher-fits))
 
 made-long : (c : tie.After-encrypt-mask) → length (c .encrypt-mask .last .1 .1 .1 .0) ≡ c .before .before .before .before .before .ciphertext .result
@@ -71,8 +71,8 @@ encrypt-mask-requires c κs =
 
 array-share-prefix-made : tie.Need-array-share-prefix-made
 array-share-prefix-made c =
-    let zeros : length (c .before .before .before .before .before .before .before .zeros .result) ≡ 4096 = search needs in
-    let fits : c .before .before .before .before .before .before .before .before .ciphertext .result ≤ 4096 = omega (arith, c .before .before .before .before .before .before .before .before .ciphertext .ensures .0, c .before .before .before .before .before .before .before .before .before .before .before .before .before .before .before .pre .well .cipher-fits) in
+    let zeros : length (c .before .before .before .before .before .before .before .zeros .result) ≡ 3584 = search needs in
+    let fits : c .before .before .before .before .before .before .before .before .ciphertext .result ≤ 3584 = omega (arith, c .before .before .before .before .before .before .before .before .ciphertext .ensures .0, c .before .before .before .before .before .before .before .before .before .before .before .before .before .before .before .pre .well .cipher-fits) in
     omega (arith, begun-length (c .before .before .before .before .before .before .before .before .ciphertext .result) (c .before .before .before .encrypt-mask .last .1 .1 .1 .0) (c .before .before .before .before .before .before .before .zeros .result) (made-long (c .before .before .before)) zeros fits)
 
 slice-aggregate-unmask : tie.Need-slice-aggregate-unmask
