@@ -164,14 +164,10 @@ static void transform(const int16_t *f, size_t n, struct values *v)
     }
 }
 
-/*
- * The polynomial modulo 2^16 of its values, which are lost. Its coefficients are below 2^27 in size: a sum of
- * at most 3 * 512 products of one below 2^14 and one of size up to 4.
- */
-static void inverse(struct values *v, size_t n, uint16_t *f)
+/* The polynomial of its values times n / 2, in their place: the lower half of its coefficients, then the upper. */
+static void join_all(struct values *v, size_t n)
 {
-    const double above = 134217728.5;
-    double *re = v->re, *im = v->im, scale = 2 / (double)n;
+    double *re = v->re, *im = v->im;
     size_t half = n / 2, len, node, i;
 
     for (len = 1; 4 * len <= half; len *= 4) {
@@ -182,10 +178,35 @@ static void inverse(struct values *v, size_t n, uint16_t *f)
     }
     if (len < half)
         join_two(len, re, re + len, im, im + len);
-    /* Above 2^27 nothing is negative, and the nearest integer is what the conversion leaves. */
+}
+
+/*
+ * The polynomial modulo 2^16 of its values, which are lost. Its coefficients are below 2^27 in size: a sum of
+ * at most 3 * 512 products of one below 2^14 and one of size up to 4. Above 2^27 nothing is negative, and the
+ * nearest integer is what the conversion leaves.
+ */
+static void inverse(struct values *v, size_t n, uint16_t *f)
+{
+    const double above = 134217728.5, scale = 2 / (double)n;
+    size_t half = n / 2, i;
+
+    join_all(v, n);
     for (i = 0; i < half; i++) {
-        f[i] = (uint16_t)(int32_t)(re[i] * scale + above);
-        f[half + i] = (uint16_t)(int32_t)(im[i] * scale + above);
+        f[i] = (uint16_t)(int32_t)(v->re[i] * scale + above);
+        f[half + i] = (uint16_t)(int32_t)(v->im[i] * scale + above);
+    }
+}
+
+/* The same over the integers. */
+static void signed_inverse(struct values *v, size_t n, int32_t *f)
+{
+    const double above = 134217728.5, scale = 2 / (double)n;
+    size_t half = n / 2, i;
+
+    join_all(v, n);
+    for (i = 0; i < half; i++) {
+        f[i] = (int32_t)(v->re[i] * scale + above) - (1 << 27);
+        f[half + i] = (int32_t)(v->im[i] * scale + above) - (1 << 27);
     }
 }
 
@@ -299,13 +320,14 @@ static void expand_gamma(const struct set *s, const uint8_t *gamma, size_t count
         at = unpack(at, s->width_2p, s->p, secrets[i], s->n);
 }
 
-/* b_1 to b_l from mu, and r and r'. */
-static void public_value(const struct set *s, const uint8_t *mu, int16_t (*secrets)[MOST_N], uint16_t (*b)[MOST_N])
+/* b_1 to b_l from mu, and r and r'; r is left transformed too. */
+static void public_value(const struct set *s, const uint8_t *mu, int16_t (*secrets)[MOST_N], struct values *r,
+    uint16_t (*b)[MOST_N])
 {
     uint8_t stream[MOST_STREAM + SLACK];
     const uint8_t *at = stream;
     int16_t f[MOST_N], *low = secrets[s->l];
-    struct values r[MOST_L], a, sum;
+    struct values a, sum;
     size_t i, j;
 
     for (i = 0; i < s->l; i++)
@@ -343,10 +365,11 @@ void ref_keygen(uint32_t set, const uint8_t *mu, const uint8_t *gamma, const uin
 {
     const struct set *s = &sets[set - 1];
     int16_t secrets[2 * MOST_L][MOST_N];
+    struct values r[MOST_L];
     uint16_t b[MOST_L][MOST_N];
 
     expand_gamma(s, gamma, 2 * s->l, secrets);
-    public_value(s, mu, secrets, b);
+    public_value(s, mu, secrets, r, b);
     store_public(s, b, mu, public_key);
     memcpy(secret_key, public_key, public_size(s));
     memcpy(secret_key + public_size(s), gamma, s->seed);
@@ -602,9 +625,10 @@ uint32_t ref_decaps(uint32_t set, const uint8_t *secret_key, const uint8_t *ciph
     return 0;
 }
 
-/* What the noise takes of a secret key: r_1 to r_l, r'_1 to r'_l, and b. */
+/* What the noise takes of a secret key: r_1 to r_l, r'_1 to r'_l, r transformed, and b. */
 struct key_parts {
     int16_t secrets[2 * MOST_L][MOST_N];
+    struct values r[MOST_L];
     uint16_t b[MOST_L][MOST_N];
 };
 
@@ -615,7 +639,7 @@ static int open_key(const struct set *s, const uint8_t *secret_key, struct key_p
     uint8_t public_key[MOST_PUBLIC_KEY];
 
     expand_gamma(s, mu + s->seed, 2 * s->l, key->secrets);
-    public_value(s, mu, key->secrets, key->b);
+    public_value(s, mu, key->secrets, key->r, key->b);
     store_public(s, key->b, mu, public_key);
     return memcmp(public_key, secret_key, public_size(s)) == 0;
 }
@@ -627,20 +651,26 @@ static uint32_t measure(const struct set *s, const struct key_parts *key, const 
     int16_t e[MOST_L + 1][MOST_N], x[MOST_N];
     int32_t noise[MOST_N], quarter = 1 << (s->k - 2);
     struct parts parts;
+    struct values sum, a, b;
     size_t i, j;
 
     expand_coins(s, coins, &parts);
     errors(s, &parts, message, message_len, e);
-    for (j = 0; j < s->n; j++)
-        noise[j] = e[s->l][j];
+    memset(&sum, 0, sizeof sum);
     for (i = 0; i < s->l; i++) {
         for (j = 0; j < s->n; j++) {
             x[j] = (int16_t)(parts.w[i][j] + key->secrets[s->l + i][j] - (key->b[i][j] & ((1 << s->t) - 1)));
             e[i][j] = (int16_t)-e[i][j];
         }
-        ref_signed_multiply_add(noise, x, parts.s[i], s->n);
-        ref_signed_multiply_add(noise, e[i], key->secrets[i], s->n);
+        transform(x, s->n, &a);
+        transform(parts.s[i], s->n, &b);
+        multiply_add(&sum, &a, &b, s->n);
+        transform(e[i], s->n, &a);
+        multiply_add(&sum, &a, &key->r[i], s->n);
     }
+    signed_inverse(&sum, s->n, noise);
+    for (j = 0; j < s->n; j++)
+        noise[j] += e[s->l][j];
     return ref_sizes(noise, s->n, -quarter, quarter, largest);
 }
 

@@ -35,7 +35,7 @@ patched-rest {A} a ys xs =
     let none : drop (length xs - a) (drop a xs) ≡ [] = drop-of-length-le (drop a xs) {i = length xs - a} (simp length-drop (omega arith)) in
     ap (λ (l : List A). take a xs ++ (ys ++ l)) none ∙ ap (λ (l : List A). take a xs ++ l) (append-nil ys)
 
-pub take-rest : (a : ℕ) (xs : List ℕ) → take (length xs - a) (drop a xs) ≡ drop a xs
+pub take-rest : {A : Type 0} (a : ℕ) (xs : List A) → take (length xs - a) (drop a xs) ≡ drop a xs
 take-rest a xs = take-all (length xs - a) (drop a xs) (simp length-drop (omega arith))
 
 -- ---- lists that are joined

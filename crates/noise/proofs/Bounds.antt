@@ -2,7 +2,7 @@
 use mathlib.Core.Path.{_≡_, sym, ap, _∙_}
 use mathlib.Core.List.{List}
 use Prim.Native.Nat.{ℕ, zero, suc, _+_, _-_, _*_, _/_, _%_, _^_, _≤_, _<_, suc-le-suc, zero-le}
-use native.Mathlib.Nat.{lt-of-lt-of-le, mod-lt, pow-suc, mul-comm, mul-div-cancel, zero-mul, one-mul, mul-one, mul-le-mul, not-suc-le-zero}
+use native.Mathlib.Nat.{le-refl, lt-of-lt-of-le, mod-lt, pow-suc, mul-comm, mul-div-cancel, zero-mul, one-mul, mul-one, mul-le-mul, not-suc-le-zero}
 use native.Mathlib.Omega.{arith}
 use lib.IntN.{pos, negℤ, natAbs, _+ℤ_, _-ℤ_, +ℤ-idl}
 use lib.Pow.{pow-pos, pow-mono, pow-add}
@@ -11,7 +11,6 @@ use mir.Val.{SFits}
 use Rattle.hash.specs.Lists.{tabulate}
 use Rattle.bits.specs.Bits.{Below}
 use Rattle.ring.specs.Integers.{centred}
-use Rattle.ring.specs.Poly.{Poly}
 use Rattle.ring.proofs.Integers.{natAbs-add, natAbs-neg}
 use Rattle.ring.proofs.Sizes.{abs-centred, fits-abs}
 use Rattle.kindi.specs.declared.Params.{Params}
@@ -22,7 +21,7 @@ use Rattle.noise.specs.Terms.{keyNoiseIn}
 use Rattle.noise.proofs.Products.{Sized}
 
 -- Twice 2^(w−1).
-twice : (w : ℕ) → 2 ≤ w → 2 * 2 ^ (w - 1) ≡ 2 ^ w
+twice : (w : ℕ) → 1 ≤ w → 2 * 2 ^ (w - 1) ≡ 2 ^ w
 twice zero h = absurd (not-suc-le-zero h)
 twice (suc w) h =
     let less : suc w - 1 ≡ w = omega arith in
@@ -43,28 +42,33 @@ small-below P W bytes m x = rw (W .narrow) at (coefficient-below (width P) (P .n
 pub first-below : (P : Params) → WellFormed P → (coins high : List ℕ) (x : ℕ)
     → coefficient 1 (P .n) coins 0 x + 2 * coefficient (highWidth P) (P .n) high 0 x < 2 * P .p
 first-below P W coins high x =
-    omega (arith, coefficient-below 1 (P .n) coins 0 x, coefficient-below (highWidth P) (P .n) high 0 x, twice (width P) (W .wide), W .narrow)
+    omega (arith, coefficient-below 1 (P .n) coins 0 x, coefficient-below (highWidth P) (P .n) high 0 x, twice (width P) (omega (arith, W .wide)), W .narrow)
 
--- Small polynomials, s_1 among them, have coefficients of at most 64.
-pub small-sized : (P : Params) → WellFormed P → (bytes : List ℕ) (m : ℕ) → Sized (P .n) 64 (smallIn P bytes m)
-small-sized P W bytes m x h = abs-centred (P .p) (coefficient (width P) (P .n) bytes m x) (W .small-secrets) (omega (arith, small-below P W bytes m x, W .small-secrets))
+-- Small polynomials, s_1 among them, have coefficients of at most p.
+pub small-sized : (P : Params) → WellFormed P → (bytes : List ℕ) (m : ℕ) → Sized (P .n) (P .p) (smallIn P bytes m)
+small-sized P W bytes m x h =
+    abs-centred (P .p) (coefficient (width P) (P .n) bytes m x) (le-refl (P .p)) (omega (arith, small-below P W bytes m x))
 
-pub ephemeral-sized : (P : Params) → WellFormed P → (coins high rest : List ℕ) (i : ℕ) → Sized (P .n) 64 (ephemeralBy P coins high rest i)
+pub ephemeral-sized : (P : Params) → WellFormed P → (coins high rest : List ℕ) (i : ℕ) → Sized (P .n) (P .p) (ephemeralBy P coins high rest i)
 unfolding ephemeralBy
 ephemeral-sized P W coins high rest zero x h =
-    abs-centred (P .p) (coefficient 1 (P .n) coins 0 x + 2 * coefficient (highWidth P) (P .n) high 0 x) (W .small-secrets)
-    (omega (arith, first-below P W coins high x, W .small-secrets))
+    abs-centred (P .p) (coefficient 1 (P .n) coins 0 x + 2 * coefficient (highWidth P) (P .n) high 0 x) (le-refl (P .p))
+    (omega (arith, first-below P W coins high x))
 ephemeral-sized P W coins high rest (suc i) x h = small-sized P W rest i x h
 
-pub wider : {n : ℕ} (f : ℕ → Poly) → ((j : ℕ) → Sized n 64 (f j)) → (j : ℕ) → Sized n 256 (f j)
-wider f h j k l = omega (arith, h j k l)
+-- No coefficient of X is larger than this, and none of the errors.
+abbrev pub noiseMost : Params → ℕ
+noiseMost P = 2 ^ (P .t - 1) + P .p + 2 ^ P .t
 
--- X has coefficients of at most 256.
-pub key-noise-sized : (P : Params) → WellFormed P → (stream secrets b : List ℕ) (i : ℕ) → Sized (P .n) 256 (keyNoiseIn P stream secrets b i)
+pub error-sized : (P : Params) → WellFormed P → (bytes : List ℕ) (m : ℕ) → Sized (P .n) (noiseMost P) (smallIn P bytes m)
+error-sized P W bytes m x h = omega (arith, small-sized P W bytes m x h)
+
+pub key-noise-sized : (P : Params) → WellFormed P → (stream secrets b : List ℕ) (i : ℕ) → Sized (P .n) (noiseMost P) (keyNoiseIn P stream secrets b i)
 unfolding keyNoiseIn
 key-noise-sized P W stream secrets b i x h =
-    let low : natAbs (lowIn P stream i x) ≤ 64 =
-    abs-centred (2 ^ (P .t - 1)) (coefficient (P .t) (P .n) stream i x) (half-power P W) (omega (arith, coefficient-below (P .t) (P .n) stream i x, low-power P W)) in
+    let low : natAbs (lowIn P stream i x) ≤ 2 ^ (P .t - 1) =
+    abs-centred (2 ^ (P .t - 1)) (coefficient (P .t) (P .n) stream i x) (le-refl (2 ^ (P .t - 1)))
+    (omega (arith, coefficient-below (P .t) (P .n) stream i x, twice (P .t) (W .dropped))) in
     let v : ℕ = coefficient (P .k) (P .n) b i x % 2 ^ P .t in
     let dropped : v < 2 ^ P .t = mod-lt (coefficient (P .k) (P .n) b i x) (pow-pos (P .t)) in
     omega (
@@ -75,8 +79,14 @@ key-noise-sized P W stream secrets b i x h =
       low,
       small-sized P W secrets (P .l + i) x h,
       dropped,
-      low-power P W,
     )
+
+-- Neither bound is zero.
+pub some-small : (P : Params) → WellFormed P → 0 < P .p
+some-small P W = omega (arith, W .narrow, pow-pos (width P))
+
+pub some-noise : (P : Params) → WellFormed P → 0 < noiseMost P
+some-noise P W = omega (arith, some-small P W)
 
 -- ---- words
 

@@ -3,7 +3,7 @@
 use mathlib.Core.Path.{_≡_, sym, ap, ap₂, _∙_}
 use mathlib.Core.List.{List}
 use Prim.Native.Nat.{ℕ, _+_, _*_, _^_, _≤_, _<_}
-use native.Mathlib.Nat.{le-refl, mul-le-mul, mul-le-mul-right, mul-assoc, suc-mul}
+use native.Mathlib.Nat.{mul-le-mul, mul-comm}
 use native.Mathlib.Numerals.{add-one}
 use native.Mathlib.Omega.{arith}
 use lib.IntN.{ℤ, pos, negℤ, natAbs, _+ℤ_, +ℤ-idr, +ℤ-assoc}
@@ -13,11 +13,12 @@ use Rattle.hash.proofs.Entries.{tabulate-at, length-tabulate}
 use Rattle.bits.proofs.Filling.{tabulate-ext, tabulate-entries}
 use Rattle.ring.specs.Integers.{largest}
 use Rattle.ring.specs.Poly.{Poly, sum, mul, plus, minus, dot, ofInts}
-use Rattle.ring.specs.Coefficients.{Summable, withSignedProduct}
+use Rattle.ring.specs.Coefficients.{withSignedProduct}
 use Rattle.ring.proofs.Integers.{natAbs-add, natAbs-neg}
 use Rattle.ring.proofs.Sums.{natAbs-sum}
 use Rattle.ring.proofs.Ring.{mul-ext, natAbs-mul-poly}
 use Rattle.ring.proofs.Sizes.{largest-le, le-largest, largest-zeros}
+use Rattle.signed_product.specs.Toeplitz.{Factors}
 
 -- acc with the first i products of two vectors added.
 abbrev pub partial : ℕ → List ℤ → (ℕ → Poly) → (ℕ → Poly) → ℕ → List ℤ
@@ -61,43 +62,46 @@ largest-table n b f h =
     let inside : k < n = rw (length-tabulate n f) at l in
     rw (tabulate-at n f k (pos 0) inside) (h k inside))
 
--- i products of factors of at most 256 and 64.
-dot-size : (i n : ℕ) (F S : ℕ → Poly) (k : ℕ) → ((j : ℕ) → Sized n 256 (F j)) → ((j : ℕ) → Sized n 64 (S j)) → k < n
-    → natAbs (dot i n F S k) ≤ i * n * 16384
+-- i products of factors of at most B and C.
+dot-size : (i n B C : ℕ) (F S : ℕ → Poly) (k : ℕ) → ((j : ℕ) → Sized n B (F j)) → ((j : ℕ) → Sized n C (S j)) → k < n
+    → natAbs (dot i n F S k) ≤ i * (n * (C * B))
 unfolding dot
-dot-size i n F S k hF hS h =
-    rw (mul-assoc i n 16384) (natAbs-sum i (n * 16384) (λ j. mul n (F j) (S j) k) (λ j _. natAbs-mul-poly n 256 64 (F j) (S j) (hF j) (hS j) h))
+dot-size i n B C F S k hF hS h =
+    rw (mul-comm C B) (natAbs-sum i (n * (B * C)) (λ j. mul n (F j) (S j) k) (λ j _. natAbs-mul-poly n B C (F j) (S j) (hF j) (hS j) h))
 
-partial-size : (n : ℕ) (acc : List ℤ) (F S : ℕ → Poly) (i : ℕ) → ((j : ℕ) → Sized n 256 (F j)) → ((j : ℕ) → Sized n 64 (S j))
-    → largest (partial n acc F S i) ≤ largest acc + i * n * 16384
-partial-size n acc F S i hF hS =
-    largest-table n (largest acc + i * n * 16384) (plus (ofInts acc) (dot i n F S))
-    (λ k h. omega (arith, natAbs-add (ofInts acc k) (dot i n F S k), le-largest acc k, dot-size i n F S k hF hS h))
+-- What is there after at most 8 of them, where each is below 2^15.
+partial-size : (n B C : ℕ) (acc : List ℤ) (F S : ℕ → Poly) (i : ℕ) → i ≤ 8 → n * (C * B) < 2 ^ 15
+    → ((j : ℕ) → Sized n B (F j)) → ((j : ℕ) → Sized n C (S j)) → largest (partial n acc F S i) ≤ largest acc + 262144
+partial-size n B C acc F S i few small hF hS =
+    let each : n * (C * B) ≤ 32768 = omega (arith, small) in
+    let most : i * (n * (C * B)) ≤ 8 * 32768 = mul-le-mul few each in
+    largest-table n (largest acc + 262144) (plus (ofInts acc) (dot i n F S))
+    (λ k h. omega (arith, natAbs-add (ofInts acc k) (dot i n F S k), le-largest acc k, dot-size i n B C F S k hF hS h, most))
 
--- What is there after all of them.
-pub whole-size : (l n : ℕ) (acc : List ℤ) (F S : ℕ → Poly) → l * n ≤ 1536 → ((j : ℕ) → Sized n 256 (F j)) → ((j : ℕ) → Sized n 64 (S j))
-    → largest (partial n acc F S l) ≤ largest acc + 25165824
-whole-size l n acc F S h hF hS = omega (arith, partial-size n acc F S l hF hS)
-
--- One more product fits.
-pub summable : (l n : ℕ) (acc₀ : List ℤ) (F S : ℕ → Poly) (i : ℕ) {acc x s : List ℤ} → i < l → n ≤ 512 → l * n ≤ 1536 → largest acc₀ ≤ 2 ^ 30
-    → ((j : ℕ) → Sized n 256 (F j)) → ((j : ℕ) → Sized n 64 (S j))
-    → acc ≡ partial n acc₀ F S i → x ≡ tabulate n (F i) → s ≡ tabulate n (S i) → Summable acc x s
-summable l n acc₀ F S i {acc} {x} {s} turn short vector start hF hS e ex es =
+-- There is room for one more.
+pub factors : (l n B C : ℕ) (acc₀ : List ℤ) (F S : ℕ → Poly) (i : ℕ) {acc x s : List ℤ} → i < l → l ≤ 8 → 0 < n → n ≤ 512 → 0 < B → 0 < C
+    → n * (C * B) < 2 ^ 15 → largest acc₀ ≤ 2 ^ 30 → ((j : ℕ) → Sized n B (F j)) → ((j : ℕ) → Sized n C (S j))
+    → acc ≡ partial n acc₀ F S i → x ≡ tabulate n (F i) → s ≡ tabulate n (S i) → Factors acc x s
+factors l n B C acc₀ F S i {acc} {x} {s} turn few some short someB someC small start hF hS e ex es =
     let long : length acc ≡ n = ap length e ∙ length-tabulate n (plus (ofInts acc₀) (dot i n F S)) in
     let lx : length x ≡ n = ap length ex ∙ length-tabulate n (F i) in
     let ls : length s ≡ n = ap length es ∙ length-tabulate n (S i) in
-    let bx : largest x ≤ 256 = rw ex (largest-table n 256 (F i) (hF i)) in
-    let bs : largest s ≤ 64 = rw es (largest-table n 64 (S i) (hS i)) in
-    let term : n * (largest x * largest s) ≤ n * 16384 = mul-le-mul (le-refl n) (mul-le-mul bx bs) in
-    let before : largest acc ≤ largest acc₀ + i * n * 16384 = rw e (partial-size n acc₀ F S i hF hS) in
-    let room : i * n + n ≤ l * n = rw (sym (suc-mul i n)) (mul-le-mul-right n turn) in
+    let before : largest acc ≤ largest acc₀ + 262144 = rw e (partial-size n B C acc₀ F S i (omega arith) small hF hS) in
     record {
       first = lx ∙ sym long;
       second = ls ∙ sym long;
+      some = omega (arith, long);
       short = omega (arith, long);
-      negatable = omega (arith, bs);
-      small = rw long (omega (arith, term, before, room));
+      room = omega (arith, before, start);
+      bounded = record {
+        first = C;
+        second = B;
+        some-first = someC;
+        some-second = someB;
+        first-most = rw es (largest-table n C (S i) (hS i));
+        second-most = rw ex (largest-table n B (F i) (hF i));
+        small = rw long small;
+      };
     }
 
 -- ---- the noise
@@ -109,8 +113,8 @@ rest-size n x acc e =
     (λ k h. omega (arith, natAbs-add (ofInts x k) (negℤ (ofInts acc k)), natAbs-neg (ofInts acc k), le-largest x k, le-largest acc k)))
 
 -- Products added to zeros.
-pub errors-size : (l n : ℕ) (F S : ℕ → Poly) {zeros acc : List ℤ} → zeros ≡ replicate n (pos 0) → l * n ≤ 1536
-    → ((j : ℕ) → Sized n 256 (F j)) → ((j : ℕ) → Sized n 64 (S j)) → acc ≡ partial n zeros F S l → largest acc ≤ 25165824
-errors-size l n F S {zeros} {acc} ez vector hF hS e =
+pub errors-size : (l n B C : ℕ) (F S : ℕ → Poly) {zeros acc : List ℤ} → zeros ≡ replicate n (pos 0) → l ≤ 8 → n * (C * B) < 2 ^ 15
+    → ((j : ℕ) → Sized n B (F j)) → ((j : ℕ) → Sized n C (S j)) → acc ≡ partial n zeros F S l → largest acc ≤ 262144
+errors-size l n B C F S {zeros} {acc} ez few small hF hS e =
     let none : largest zeros ≡ 0 = ap largest ez ∙ largest-zeros n in
-    rw e (omega (arith, whole-size l n zeros F S vector hF hS))
+    rw e (omega (arith, partial-size n B C zeros F S l few small hF hS))

@@ -17,6 +17,7 @@ use kindi::Params;
 use pke::lengths;
 use pke::vectors;
 use ring::signed;
+use signed_product;
 
 fn factor() -> [i16; 512] {
     [0; 512]
@@ -45,7 +46,7 @@ fn add_errors(
     while j < p.l {
         factors::small(p, masked, j, x);
         factors::small(p, secrets, j, s);
-        signed::multiply_add(acc, x, s);
+        signed_product::multiply_add(acc, x, s);
         j += 1;
     }
 }
@@ -91,7 +92,7 @@ fn add_keys(
     while i < p.l {
         factors::key_noise(p, stream, secrets, b, i, x);
         factors::ephemeral(p, coins, high, rest, i, s);
-        signed::multiply_add(acc, x, s);
+        signed_product::multiply_add(acc, x, s);
         i += 1;
     }
 }

@@ -27,19 +27,19 @@ pub zeros-long : {n : ℕ} {xs : List ℕ} → xs ≡ replicate n 0 → length x
 zeros-long {n} e = ap length e ∙ length-replicate n 0
 
 -- The entries from place h on, and a list that has others there, as a part that is lent and comes back leaves them.
-abbrev pub rest : ℕ → List ℕ → List ℕ
+abbrev pub rest : {A : Type 0} → ℕ → List A → List A
 rest h xs = take (length xs - h) (drop h xs)
 
-abbrev pub putRest : ℕ → List ℕ → List ℕ → List ℕ
+abbrev pub putRest : {A : Type 0} → ℕ → List A → List A → List A
 putRest h ys xs = patched h (length xs - h) ys xs
 
-pub rest-long : (h : ℕ) (xs : List ℕ) → length xs ≡ h + h → length (rest h xs) ≡ h
+pub rest-long : {A : Type 0} (h : ℕ) (xs : List A) → length xs ≡ h + h → length (rest h xs) ≡ h
 rest-long h xs l = ap length (take-rest h xs) ∙ simp length-drop (omega arith)
 
-pub first-long : (h : ℕ) (xs : List ℕ) → length xs ≡ h + h → length (take h xs) ≡ h
+pub first-long : {A : Type 0} (h : ℕ) (xs : List A) → length xs ≡ h + h → length (take h xs) ≡ h
 first-long h xs l = length-take-le h xs (omega arith)
 
-pub front-long : (h : ℕ) (xs ys : List ℕ) → length xs ≡ h + h → length ys ≡ length (take h xs) → length (ys ++ drop h xs) ≡ h + h
+pub front-long : {A : Type 0} (h : ℕ) (xs ys : List A) → length xs ≡ h + h → length ys ≡ length (take h xs) → length (ys ++ drop h xs) ≡ h + h
 front-long h xs ys l e = length-front xs ys h e ∙ l
 
 rest-at : (h : ℕ) (xs : List ℕ) (k : ℕ) → ofNats (rest h xs) k ≡ from h (ofNats xs) k
@@ -52,17 +52,17 @@ window-at : (h n : ℕ) (xs : List ℕ) {k : ℕ} → k < n → ofNats (take n (
 window-at h n xs {k} hk = ap pos (getD-take n (drop h xs) k 0 hk ∙ getD-drop h xs k 0)
 
 -- The first half, and the second, of a list of two.
-first-of : (h : ℕ) (ys zs : List ℕ) → length ys ≡ h → take h (ys ++ zs) ≡ ys
+pub first-of : {A : Type 0} (h : ℕ) (ys zs : List A) → length ys ≡ h → take h (ys ++ zs) ≡ ys
 first-of h ys zs l = ap (λ (m : ℕ). take m (ys ++ zs)) (sym l) ∙ take-append-seam ys zs
 
-second-of : (h : ℕ) (ys zs : List ℕ) → length ys ≡ h → drop h (ys ++ zs) ≡ zs
+pub second-of : {A : Type 0} (h : ℕ) (ys zs : List A) → length ys ≡ h → drop h (ys ++ zs) ≡ zs
 second-of h ys zs l = ap (λ (m : ℕ). drop m (ys ++ zs)) (sym l) ∙ drop-append-seam ys zs
 
 -- Both halves are replaced, one after the other.
-replaced : (h : ℕ) (xs ys zs : List ℕ) → length ys ≡ h → putRest h zs (ys ++ drop h xs) ≡ ys ++ zs
-replaced h xs ys zs l = patched-rest h zs (ys ++ drop h xs) ∙ ap (λ (l : List ℕ). l ++ zs) (first-of h ys (drop h xs) l)
+pub replaced : {A : Type 0} (h : ℕ) (xs ys zs : List A) → length ys ≡ h → putRest h zs (ys ++ drop h xs) ≡ ys ++ zs
+replaced {A} h xs ys zs l = patched-rest h zs (ys ++ drop h xs) ∙ ap (λ (l : List A). l ++ zs) (first-of h ys (drop h xs) l)
 
-pub replaced-long : (h : ℕ) (xs ys zs : List ℕ) → length xs ≡ h + h → length ys ≡ length (take h xs)
+pub replaced-long : {A : Type 0} (h : ℕ) (xs ys zs : List A) → length xs ≡ h + h → length ys ≡ length (take h xs)
     → length zs ≡ length (rest h (ys ++ drop h xs)) → length (putRest h zs (ys ++ drop h xs)) ≡ h + h
 replaced-long h xs ys zs l e f =
     let first : length ys ≡ h = e ∙ first-long h xs l in
@@ -109,11 +109,11 @@ unfolding withToeplitz
 with-long h acc row v l e =
     ap length e ∙ length-residues 65536 (length acc) (plus (ofNats acc) (toeplitz (length acc) (ofNats row) (ofNats v))) ∙ l
 
-nothing-at : (h k : ℕ) → _≡_ {A = ℕ} (getD (replicate h 0) k 0) 0
-nothing-at zero zero = refl
-nothing-at zero (suc k) = refl
-nothing-at (suc h) zero = refl
-nothing-at (suc h) (suc k) = nothing-at h k
+pub nothing-at : {A : Type 0} (none : A) (h k : ℕ) → getD (replicate h none) k none ≡ none
+nothing-at none zero zero = refl
+nothing-at none zero (suc k) = refl
+nothing-at none (suc h) zero = refl
+nothing-at none (suc h) (suc k) = nothing-at none h k
 
 -- ---- the whole
 
@@ -175,7 +175,7 @@ halves-joined h acc row v {both} {none} {mid} {above} {t} {below} {b} {t'} {b'} 
     λ k hk. cong-trans (with-at h none (take (h + h) (drop h row)) both (zeros-long en) (em ∙ ap (λ (n : ℕ). withToeplitz none (take n (drop h row)) both) same) hk)
     (cong-trans
     (cong-of-eq
-    (ap (λ (x : ℕ). pos x +ℤ toeplitz h (ofNats (take (h + h) (drop h row))) (ofNats both) k) (ap (λ (l : List ℕ). getD l k 0) en ∙ nothing-at h k)
+    (ap (λ (x : ℕ). pos x +ℤ toeplitz h (ofNats (take (h + h) (drop h row))) (ofNats both) k) (ap (λ (l : List ℕ). getD l k 0) en ∙ nothing-at 0 h k)
     ∙ +ℤ-idl (toeplitz h (ofNats (take (h + h) (drop h row))) (ofNats both) k)))
     (toeplitz-cong h (ofNats (take (h + h) (drop h row))) (from h r) (ofNats both) (ofNats both)
     (λ i hi. cong-of-eq (window-at h (h + h) row hi)) (λ i _. cong-refl (ofNats both i)) hk))

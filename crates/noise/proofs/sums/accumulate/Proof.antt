@@ -3,6 +3,7 @@
 use mathlib.Core.Path.{_≡_, sym, ap, _∙_}
 use mathlib.Core.List.{List}
 use Prim.Native.Nat.{ℕ, _+_, _-_, _≤_}
+use native.Mathlib.Nat.{le-trans}
 use native.Mathlib.Omega.{arith}
 use borrow.Author.Needs.{needs}
 use denote.Ref.{now}
@@ -15,7 +16,7 @@ use Rattle.kindi.specs.Params.{width, paddedLength}
 use Rattle.kindi.specs.Streams.{smallIn}
 use Rattle.pke.proofs.Amounts.{width-bound, within, part-length}
 use Rattle.noise.proofs.Products.{errors-size, rest-size, largest-table}
-use Rattle.noise.proofs.Bounds.{small-sized, wider}
+use Rattle.noise.proofs.Bounds.{noiseMost, small-sized, error-sized}
 use Rattle.noise.proofs.Streams.{accumulated}
 use Rattle.noise.proofs.sums.accumulate.Statement.{statement}
 use Rattle.noise.proofs.sums.accumulate.Tie as tie
@@ -29,18 +30,19 @@ masked-long c =
 sum-long : (c : tie.After-add-errors) → length (c .add-errors .last .1 .1 .1 .1 .1 .0) ≡ c .before .before .before .before .before .before .before .before .before .before .before .before .args .p .n
 sum-long c = c .add-errors .kept .1 .1 .1 .1 .1 .0 ∙ ap length (c .before .before .before .before .before .before .before .before .before .before .before .before .pre .3) ∙ length-replicate (c .before .before .before .before .before .before .before .before .before .before .before .before .args .p .n) (pos 0)
 
-errors-small : (c : tie.After-add-errors) → largest (c .add-errors .last .1 .1 .1 .1 .1 .0) ≤ 25165824
+errors-small : (c : tie.After-add-errors) → largest (c .add-errors .last .1 .1 .1 .1 .1 .0) ≤ 262144
 errors-small c =
     let a = c .before .before .before .before .before .before .before .before .before .before .before .before .args in
     let p = a .p in
     let W = c .before .before .before .before .before .before .before .before .before .before .before .before .pre .0 .well in
     let mid : List ℕ = take (c .before .before .before .before .before .before .before .low .result + c .before .before .before .before .before .before .padded .result - c .before .before .before .before .before .before .before .low .result) (drop (c .before .before .before .before .before .before .before .low .result) (now (a .stream))) in
-    errors-size (p .l) (p .n) (smallIn p mid) (smallIn p (now (a .secrets))) (c .before .before .before .before .before .before .before .before .before .before .before .before .pre .3) (W .vector) (wider (smallIn p mid) (small-sized p W mid)) (small-sized p W (now (a .secrets))) (c .add-errors .ensures)
+    errors-size (p .l) (p .n) (noiseMost p) (p .p) (smallIn p mid) (smallIn p (now (a .secrets))) (c .before .before .before .before .before .before .before .before .before .before .before .before .pre .3) (W .few) (W .noise-words) (error-sized p W mid) (small-sized p W (now (a .secrets))) (c .add-errors .ensures)
 
 last-small : (c : tie.After-small) → largest (c .small .last .1 .1 .1 .0) ≤ 64
 last-small c =
     let p = c .before .before .before .before .before .before .before .before .before .before .before .before .before .before .before .before .before .before .args .p in
-    rw (c .small .ensures) (largest-table (p .n) 64 _ (small-sized p (c .before .before .before .before .before .before .before .before .before .before .before .before .before .before .before .before .before .before .pre .0 .well) _ _))
+    let W = c .before .before .before .before .before .before .before .before .before .before .before .before .before .before .before .before .before .before .pre .0 .well in
+    rw (c .small .ensures) (le-trans (largest-table (p .n) (p .p) _ (small-sized p W _ _)) (W .small-secrets))
 
 low-requires : tie.Need-low-requires
 low-requires c κs = search needs

@@ -10,8 +10,8 @@ use Rattle.bits.proofs.Filling.{turn-less}
 use Rattle.kindi.specs.Params.{width}
 use Rattle.kindi.specs.Streams.{smallIn}
 use Rattle.pke.proofs.Amounts.{width-bound, within}
-use Rattle.noise.proofs.Products.{partial, partial-none, partial-more, summable}
-use Rattle.noise.proofs.Bounds.{small-sized, wider}
+use Rattle.noise.proofs.Products.{partial, partial-none, partial-more, factors}
+use Rattle.noise.proofs.Bounds.{noiseMost, small-sized, error-sized, some-small, some-noise}
 use Rattle.noise.proofs.sums.add_errors.Statement.{statement}
 use Rattle.noise.proofs.sums.add_errors.Tie as tie
 
@@ -49,7 +49,7 @@ multiply-add-requires c κs =
     let pre = c .before .before .before .before .before .before .before .before .before .before .before .before .before .before .pre .0 in
     let W = pre .well in
     let h = c .before .before .before .before .before .before .before .before .before .before .before .loop in
-    summable (p .l) (p .n) (now (a .acc)) (smallIn p (now (a .masked))) (smallIn p (now (a .secrets))) (h .j) (omega arith) (W .short) (W .vector) (pre .small) (wider (smallIn p (now (a .masked))) (small-sized p W (now (a .masked)))) (small-sized p W (now (a .secrets)))
+    factors (p .l) (p .n) (noiseMost p) (p .p) (now (a .acc)) (smallIn p (now (a .masked))) (smallIn p (now (a .secrets))) (h .j) (omega arith) (W .few) (W .some-coefficients) (W .short) (some-noise p W) (some-small p W) (W .noise-words) (pre .small) (error-sized p W (now (a .masked))) (small-sized p W (now (a .secrets)))
     (h .inv .3) (c .before .before .before .before .before .before .before .small .ensures) (c .before .before .before .before .small2 .ensures)
 
 add-j : tie.Need-add-j Inv-loop μ-loop

@@ -9,8 +9,8 @@ use Rattle.hash.proofs.Entries.{length-tabulate}
 use Rattle.bits.proofs.Filling.{turn-less}
 use Rattle.kindi.specs.Streams.{ephemeralBy}
 use Rattle.noise.specs.Terms.{keyNoiseIn}
-use Rattle.noise.proofs.Products.{partial, partial-none, partial-more, summable}
-use Rattle.noise.proofs.Bounds.{key-noise-sized, ephemeral-sized}
+use Rattle.noise.proofs.Products.{partial, partial-none, partial-more, factors}
+use Rattle.noise.proofs.Bounds.{noiseMost, key-noise-sized, ephemeral-sized, some-small, some-noise}
 use Rattle.noise.proofs.sums.add_keys.Statement.{statement}
 use Rattle.noise.proofs.sums.add_keys.Tie as tie
 
@@ -50,7 +50,7 @@ multiply-add-requires c κs =
     let pre = c .before .before .before .before .before .before .before .before .before .before .before .before .before .before .before .before .before .before .pre .0 in
     let W = pre .well in
     let h = c .before .before .before .before .before .before .before .before .before .before .before .loop in
-    summable (p .l) (p .n) (now (a .acc)) (keyNoiseIn p (now (a .stream)) (now (a .secrets)) (now (a .b))) (ephemeralBy p (now (a .coins)) (now (a .high)) (now (a .rest))) (h .i) (omega arith) (W .short) (W .vector) (pre .small)
+    factors (p .l) (p .n) (noiseMost p) (p .p) (now (a .acc)) (keyNoiseIn p (now (a .stream)) (now (a .secrets)) (now (a .b))) (ephemeralBy p (now (a .coins)) (now (a .high)) (now (a .rest))) (h .i) (omega arith) (W .few) (W .some-coefficients) (W .short) (some-noise p W) (some-small p W) (W .noise-words) (pre .small)
     (key-noise-sized p W (now (a .stream)) (now (a .secrets)) (now (a .b))) (ephemeral-sized p W (now (a .coins)) (now (a .high)) (now (a .rest))) (h .inv .3) (c .before .before .before .before .before .before .before .key-noise .ensures) (c .before .before .before .before .ephemeral .ensures)
 
 add-i : tie.Need-add-i Inv-loop μ-loop

@@ -1,0 +1,85 @@
+-- Laws of the row that holds the Toeplitz matrix of a factor. Assumes nothing.
+use mathlib.Core.Path.{_≡_, sym, ap, ap₂, _∙_}
+use mathlib.Core.List.{List, _++_}
+use Prim.Native.Nat.{ℕ, _+_, _-_, _*_, _^_, _≤_, _<_}
+use native.Mathlib.Nat.{le-trans}
+use native.Mathlib.Omega.{arith}
+use lib.IntN.{ℤ, pos, negℤ, natAbs, _+ℤ_, _*ℤ_}
+use lib.ListN.{length, getD, length-append, List·getD-append}
+use lib.Seq.{getD-append-add}
+use Rattle.hash.specs.Lists.{tabulate}
+use Rattle.hash.proofs.Entries.{tabulate-at, length-tabulate}
+use Rattle.bits.proofs.Filling.{tabulate-ext}
+use Rattle.ring.specs.Integers.{largest}
+use Rattle.ring.specs.Poly.{Poly, sum, plus, shifted, mul, ofInts}
+use Rattle.ring.specs.Coefficients.{withSignedProduct}
+use Rattle.ring.proofs.Integers.{natAbs-neg}
+use Rattle.ring.proofs.Ring.{sides, shifted-low, shifted-high}
+use Rattle.ring.proofs.Sums.{sum-ext}
+use Rattle.ring.proofs.Sizes.{le-largest, largest-le}
+use Rattle.product.specs.Toeplitz.{toeplitz}
+use Rattle.signed_product.specs.Toeplitz.{withToeplitz, Bounded, Sum, Factors}
+use Rattle.signed_product.specs.Halves.{doubled}
+
+pub doubled-long : (b : List ℤ) → length (doubled b) ≡ 2 * length b
+doubled-long b =
+    length-append (tabulate (length b) (λ k. negℤ (ofInts b k))) b
+    ∙ ap (λ (m : ℕ). m + length b) (length-tabulate (length b) (λ k. negℤ (ofInts b k))) ∙ omega arith
+
+-- Entry n − i + k is coefficient k of X^i times b.
+doubled-at : (b : List ℤ) (i k : ℕ) → i < length b → k < length b → ofInts (doubled b) (length b - i + k) ≡ shifted (length b) (ofInts b) i k
+doubled-at b i k hi hk =
+    let n = length b in
+    let f : Poly = λ k. negℤ (ofInts b k) in
+    let front : length (tabulate n f) ≡ n = length-tabulate n f in
+    sides i k
+    (λ h.
+    let place : n - i + k ≡ length (tabulate n f) + (k - i) = rw front (omega arith) in
+    ap (λ (j : ℕ). ofInts (doubled b) j) place ∙ getD-append-add (tabulate n f) b (k - i) (pos 0) ∙ sym (shifted-low n (ofInts b) h))
+    (λ h.
+    let place : n - i + k ≡ n + k - i = omega arith in
+    let inside : n - i + k < n = omega arith in
+    List·getD-append (tabulate n f) b (pos 0) (n - i + k) (rw front inside) ∙ tabulate-at n f (n - i + k) (pos 0) inside
+    ∙ ap (λ (j : ℕ). negℤ (ofInts b j)) place ∙ sym (shifted-high n (ofInts b) h))
+
+doubled-size : (b : List ℤ) → largest (doubled b) ≤ largest b
+doubled-size b =
+    let n = length b in
+    let f : Poly = λ k. negℤ (ofInts b k) in
+    let front : length (tabulate n f) ≡ n = length-tabulate n f in
+    largest-le (doubled b) (largest b) (λ i l.
+    sides n i
+    (λ h.
+    let place : i ≡ length (tabulate n f) + (i - n) = rw front (omega arith) in
+    rw (ap (λ (j : ℕ). ofInts (doubled b) j) place ∙ getD-append-add (tabulate n f) b (i - n) (pos 0)) (le-largest b (i - n)))
+    (λ h. rw (List·getD-append (tabulate n f) b (pos 0) i (rw front h) ∙ tabulate-at n f i (pos 0) h, natAbs-neg (ofInts b i)) (le-largest b i)))
+
+-- The matrix of b times a is the product.
+pub product-of-row : (acc a b row : List ℤ) → Factors acc a b → row ≡ doubled b → withToeplitz acc row a ≡ withSignedProduct acc a b
+unfolding withToeplitz toeplitz mul
+product-of-row acc a b row f e =
+    let n = length acc in
+    ap (λ (r : List ℤ). tabulate n (plus (ofInts acc) (λ k. sum n (λ i. ofInts a i *ℤ ofInts r (n - i + k))))) e
+    ∙ tabulate-ext n _ _ (λ k hk.
+    ap (λ (x : ℤ). ofInts acc k +ℤ x)
+    (sum-ext n _ _ (λ i hi. ap (λ (x : ℤ). ofInts a i *ℤ x) (rw (← f .second) (doubled-at b i k (rw (f .second) hi) (rw (f .second) hk))))))
+
+-- What the product of a matrix asks.
+pub sum-of-row : (n : ℕ) (acc a b row : List ℤ) → length acc ≡ n → Factors acc a b → row ≡ doubled b → Sum n acc row a
+sum-of-row n acc a b row l f e = record {
+  sum-long = l;
+  room = f .room;
+  matrix = record {
+    row-long = ap length e ∙ doubled-long b ∙ ap (λ (m : ℕ). 2 * m) (f .second ∙ l);
+    vector-long = f .first ∙ l;
+    bounded = record {
+      first = f .bounded .first;
+      second = f .bounded .second;
+      some-first = f .bounded .some-first;
+      some-second = f .bounded .some-second;
+      first-most = rw e (le-trans (doubled-size b) (f .bounded .first-most));
+      second-most = f .bounded .second-most;
+      small = rw (← l) (f .bounded .small);
+    };
+  };
+}

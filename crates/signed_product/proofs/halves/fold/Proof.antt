@@ -1,0 +1,109 @@
+-- `signed_product::halves::fold` meets its contract: after k turns the first k entries are written.
+-- Assumes nothing.
+use mathlib.Core.Path.{_≡_, refl, sym, ap, ap₂, _∙_}
+use Prim.Native.Nat.{_+_, _-_, _≤_}
+use native.Mathlib.Omega.{arith}
+use denote.Ref.{now}
+use lib.IntN.{ℤ, pos, negℤ, _+ℤ_, _-ℤ_, +ℤ-idl}
+use lib.ListN.{length, getD, length-set}
+use mir.Syntax.{w16, w32}
+use mir.Val.{toZ, ofZ}
+use mir.ValLaws.{toZ-ofZ}
+use Rattle.bits.proofs.Filling.{filled, filled-none, filled-more, filled-at, filled-all, tabulate-entries}
+use Rattle.ring.specs.Poly.{plus, minus, ofInts}
+use Rattle.ring.proofs.Sizes.{le-largest}
+use Rattle.signed_product.specs.Halves.{folded}
+use Rattle.signed_product.proofs.halves.fold.Statement.{statement}
+use Rattle.signed_product.proofs.halves.fold.Tie as tie
+
+abbrev Inv-loop : tie.InvT-loop
+Inv-loop v dst₀ h k₀ dst k = (k ≤ length dst₀) × (length dst ≡ length dst₀) × (dst ≡ filled k (plus (ofInts v) (λ i. ofInts v (length dst₀ + i))) dst₀)
+
+abbrev μ-loop : tie.MeasureT-loop
+μ-loop v dst₀ h k₀ dst k = length dst₀ - k
+
+loop-holds : tie.Need-loop-holds Inv-loop μ-loop
+loop-holds c = (omega arith, refl, filled-none _ _)
+
+mul-sum : tie.Need-mul-sum Inv-loop μ-loop
+mul-sum c = omega arith
+
+shared-slice-copy-out-sum : tie.Need-shared-slice-copy-out-sum Inv-loop μ-loop
+shared-slice-copy-out-sum c = omega arith
+
+add-sum : tie.Need-add-sum Inv-loop μ-loop
+add-sum c = omega arith
+
+mul-sum-2 : tie.Need-mul-sum-2 Inv-loop μ-loop
+mul-sum-2 c = omega arith
+
+shared-slice-copy-out-sum-2 : tie.Need-shared-slice-copy-out-sum-2 Inv-loop μ-loop
+shared-slice-copy-out-sum-2 c = omega arith
+
+sum-requires : tie.Need-sum-requires Inv-loop μ-loop
+sum-requires c κs =
+    let h = c .before .before .before .loop in
+    let a = c .before .before .before .before .args in
+    let x = getD (now (a .v)) (h .k) (pos 0) in
+    let y = getD (now (a .v)) (length (now (a .dst)) + h .k) (pos 0) in
+    let sx : toZ w16 (ofZ w16 x) ≡ x = toZ-ofZ w16 x (record { sfits = c .before .sum-arg .given }) in
+    let sy : toZ w16 (ofZ w16 y) ≡ y = toZ-ofZ w16 y (record { sfits = c .sum-arg2 .given }) in
+    rw (sx, sy) (omega (arith, le-largest (now (a .v)) (h .k), le-largest (now (a .v)) (length (now (a .dst)) + h .k), c .before .before .before .before .pre .1))
+
+mul-t14 : tie.Need-mul-t14 Inv-loop μ-loop
+mul-t14 c = omega arith
+
+slice-set-from-dst : tie.Need-slice-set-from-dst Inv-loop μ-loop
+slice-set-from-dst c = omega arith
+
+add-k : tie.Need-add-k Inv-loop μ-loop
+add-k c = omega arith
+
+loop-less : tie.Need-loop-less Inv-loop μ-loop
+loop-less c = omega arith
+
+loop-again : tie.Need-loop-again Inv-loop μ-loop
+loop-again c =
+    let h = c .before .before .before .before .loop in
+    let a = c .before .before .before .before .before .args in
+    let x = getD (now (a .v)) (h .k) (pos 0) in
+    let y = getD (now (a .v)) (length (now (a .dst)) + h .k) (pos 0) in
+    let sx : toZ w16 (ofZ w16 x) ≡ x = toZ-ofZ w16 x (record { sfits = c .before .before .sum-arg .given }) in
+    let sy : toZ w16 (ofZ w16 y) ≡ y = toZ-ofZ w16 y (record { sfits = c .before .sum-arg2 .given }) in
+    (
+      omega arith,
+      simp length-set (h .inv .1),
+      filled-more (h .k) (plus (ofInts (now (a .v))) (λ i. ofInts (now (a .v)) (length (now (a .dst)) + i))) (now (a .dst)) (pos 0) (omega arith) (h .inv .2)
+          (toZ-ofZ w16 (c .sum .result) (record { sfits = c .sum .ok }) ∙ c .sum .ensures ∙ ap₂ _+ℤ_ (sx) sy),
+    )
+
+same-length : tie.Need-same-length Inv-loop μ-loop
+same-length c = c .before .loop .inv .1
+
+returns : tie.Need-returns Inv-loop μ-loop
+unfolding folded
+returns c =
+    let h = c .before .loop in
+    let a = c .before .before .args in
+    filled-all (h .k) (length (now (a .dst))) (plus (ofInts (now (a .v))) (λ i. ofInts (now (a .v)) (length (now (a .dst)) + i))) (now (a .dst)) refl (omega arith) (omega arith) (h .inv .2)
+
+pub fold-spec : {M : Type 1} → statement M
+fold-spec =
+    tie.close
+    (tie.spec
+    Inv-loop
+    μ-loop
+    loop-holds
+    mul-sum
+    shared-slice-copy-out-sum
+    add-sum
+    mul-sum-2
+    shared-slice-copy-out-sum-2
+    sum-requires
+    mul-t14
+    slice-set-from-dst
+    add-k
+    loop-less
+    loop-again
+    same-length
+    returns)

@@ -1,0 +1,25 @@
+-- `signed_product::halves::wide_sum` meets its contract: the result fits.
+-- Assumes nothing.
+use mathlib.Core.Path.{_≡_, _∙_}
+use Prim.Native.Nat.{ℕ, _+_, _^_, _<_}
+use native.Mathlib.Omega.{arith}
+use lib.IntN.{negℤ, natAbs, _+ℤ_, _-ℤ_}
+use mir.Syntax.{w32}
+use mir.Val.{SFits, toZ, ofZ}
+use mir.ValLaws.{toZ-ofZ}
+use Rattle.ring.proofs.Sizes.{fits-abs}
+use Rattle.ring.proofs.Integers.{natAbs-add, natAbs-neg}
+use Rattle.signed_product.proofs.halves.wide_sum.Statement.{statement}
+use Rattle.signed_product.proofs.halves.wide_sum.Tie as tie
+
+fits : (c : tie.Start) → SFits w32 (c .args .x +ℤ c .args .y)
+fits c = fits-abs w32 (c .args .x +ℤ c .args .y) (omega (arith, natAbs-add (c .args .x) (c .args .y), c .pre))
+
+add-result : tie.Need-add-result
+add-result c = rw (toZ-ofZ w32 (c .args .x) (c .fits .x), toZ-ofZ w32 (c .args .y) (c .fits .y)) (fits c)
+
+returns : tie.Need-returns
+returns c = rw (toZ-ofZ w32 (c .args .x) (c .fits .x), toZ-ofZ w32 (c .args .y) (c .fits .y)) (toZ-ofZ w32 (c .args .x +ℤ c .args .y) (fits c))
+
+pub wide-sum-spec : {M : Type 1} → statement M
+wide-sum-spec = tie.close (tie.spec add-result returns)

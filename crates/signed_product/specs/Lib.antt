@@ -1,0 +1,4 @@
+-- What the contracts of `signed_product` say.
+pub mod Terms
+pub mod Toeplitz
+pub mod Halves
