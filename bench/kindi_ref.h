@@ -1,8 +1,7 @@
 /*
- * kindi_ref.h: the calls of the scheme in portable C, the baseline of the benchmark. Products modulo q
- * are by a complex transform in double precision, as in the reference implementation of KINDI, so a ratio
- * is about the methods too; those of the noise, over the integers, are by ring_ref.h. It is written for
- * itself and shares nothing with the library.
+ * kindi_ref.h: the calls of the scheme in portable C, the baseline of the benchmark. All products are by a
+ * complex transform in double precision, as in the reference implementation of KINDI, so a ratio is about
+ * the methods too. It is written for itself and shares nothing with the library.
  */
 #ifndef KINDI_REF_H
 #define KINDI_REF_H

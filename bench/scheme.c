@@ -1,6 +1,6 @@
 /*
  * Times the calls of the scheme in each parameter set beside portable C that multiplies by a
- * double-precision transform, or where the product is one over the integers, as the library does.
+ * double-precision transform.
  */
 #include <stdio.h>
 #include <stdlib.h>

@@ -1,11 +1,11 @@
--- Laws of the product that `rows::toeplitz_64` adds up eight columns at a time, and of the sizes of its sums. Assumes nothing.
+-- Laws of the product that `rows::toeplitz_64` adds up column by column, and of the sizes of its sums. Assumes nothing.
 use mathlib.Core.Path.{_≡_, refl, sym, ap, ap₂, _∙_}
 use mathlib.Core.List.{List}
-use Prim.Native.Nat.{ℕ, _+_, _-_, _*_, _^_, _≤_, _<_}
-use native.Mathlib.Nat.{le-refl, lt-of-le-of-lt, mul-le-mul, mul-comm, mul-add, mul-assoc, add-mul, min-eq-left}
-use native.Mathlib.Numerals.{towards-suc}
+use Prim.Native.Nat.{ℕ, suc, _+_, _-_, _*_, _^_, _≤_, _<_}
+use native.Mathlib.Nat.{le-refl, lt-of-le-of-lt, mul-le-mul, mul-comm, suc-mul, min-eq-left}
+use native.Mathlib.Numerals.{add-one}
 use native.Mathlib.Omega.{arith}
-use lib.IntN.{ℤ, pos, natAbs, _+ℤ_, _*ℤ_, +ℤ-assoc}
+use lib.IntN.{ℤ, pos, natAbs, _+ℤ_, _*ℤ_}
 use lib.ListN.{length, take, drop, replicate, length-take, length-drop}
 use lib.Seq.{getD-take, getD-drop}
 use lib.Signed.{mag}
@@ -21,7 +21,6 @@ use Rattle.ring.proofs.Integers.{natAbs-add, natAbs-mul}
 use Rattle.ring.proofs.Sums.{natAbs-sum}
 use Rattle.ring.proofs.Sizes.{fits-abs, abs-fits, le-largest, largest-le}
 use Rattle.product.specs.Toeplitz.{toeplitz}
-use Rattle.signed_product.specs.Terms.{fourTerms, addEight}
 use Rattle.signed_product.specs.Toeplitz.{Bounded, withToeplitz}
 use Rattle.signed_product.proofs.Small.{terms-small, part-size}
 
@@ -48,89 +47,12 @@ wide-fits x y h f =
 pub word : {z : ℤ} → mag z < 2 ^ 15 → toZ w16 (ofZ w16 z) ≡ z
 word {z} h = toZ-ofZ w16 z (record { sfits = h })
 
--- ---- four and eight terms
-
--- A term is at most its factor times the largest entry of the row.
-term-size : (row : List ℤ) (a : ℤ) (i : ℕ) → natAbs a * natAbs (ofInts row i) ≤ largest row * natAbs a
-term-size row a i = rw (mul-comm (natAbs a) (natAbs (ofInts row i))) (mul-le-mul (le-largest row i) (le-refl (natAbs a)))
-
--- So is what it adds to the size of a sum.
-more-size : (x : ℤ) (row : List ℤ) (a : ℤ) (i : ℕ) → natAbs (x +ℤ a *ℤ ofInts row i) ≤ natAbs x + largest row * natAbs a
-more-size x row a i = omega (arith, natAbs-add x (a *ℤ ofInts row i), natAbs-mul a (ofInts row i), term-size row a i)
-
--- A factor of four summands.
-four-parts : (m a b c d : ℕ) → m * (a + b + c + d) ≡ m * a + m * b + m * c + m * d
-four-parts m a b c d = omega arith
-
--- Room for four terms is room for each of them beside those before it.
-abbrev pub Room : List ℤ → ℤ → ℤ → ℤ → ℤ → ℤ → Type 0
-Room row x a b c d = natAbs x + largest row * (natAbs a + natAbs b + natAbs c + natAbs d) < 2 ^ 15
-
-pub first-room : (row : List ℤ) (k : ℕ) (x a b c d : ℤ) → Room row x a b c d → natAbs x + natAbs a * natAbs (ofInts row (k + 3)) < 2 ^ 15
-first-room row k x a b c d h =
-    omega (arith, h, four-parts (largest row) (natAbs a) (natAbs b) (natAbs c) (natAbs d), term-size row a (k + 3))
-
-pub second-room : (row : List ℤ) (k : ℕ) (x a b c d : ℤ) → Room row x a b c d
-    → natAbs (x +ℤ a *ℤ ofInts row (k + 3)) + natAbs b * natAbs (ofInts row (k + 2)) < 2 ^ 15
-second-room row k x a b c d h =
-    omega (arith, h, four-parts (largest row) (natAbs a) (natAbs b) (natAbs c) (natAbs d), more-size x row a (k + 3), term-size row b (k + 2))
-
-pub third-room : (row : List ℤ) (k : ℕ) (x a b c d : ℤ) → Room row x a b c d
-    → natAbs (x +ℤ a *ℤ ofInts row (k + 3) +ℤ b *ℤ ofInts row (k + 2)) + natAbs c * natAbs (ofInts row (k + 1)) < 2 ^ 15
-third-room row k x a b c d h =
-    omega (
-      arith,
-      h,
-      four-parts (largest row) (natAbs a) (natAbs b) (natAbs c) (natAbs d),
-      more-size x row a (k + 3),
-      more-size (x +ℤ a *ℤ ofInts row (k + 3)) row b (k + 2),
-      term-size row c (k + 1),
-    )
-
-pub fourth-room : (row : List ℤ) (k : ℕ) (x a b c d : ℤ) → Room row x a b c d
-    → natAbs (x +ℤ a *ℤ ofInts row (k + 3) +ℤ b *ℤ ofInts row (k + 2) +ℤ c *ℤ ofInts row (k + 1)) + natAbs d * natAbs (ofInts row k) < 2 ^ 15
-fourth-room row k x a b c d h =
-    omega (
-      arith,
-      h,
-      four-parts (largest row) (natAbs a) (natAbs b) (natAbs c) (natAbs d),
-      more-size x row a (k + 3),
-      more-size (x +ℤ a *ℤ ofInts row (k + 3)) row b (k + 2),
-      more-size (x +ℤ a *ℤ ofInts row (k + 3) +ℤ b *ℤ ofInts row (k + 2)) row c (k + 1),
-      term-size row d k,
-    )
-
--- The size of a sum with four terms more.
-four-size : (row : List ℤ) (k : ℕ) (x a b c d : ℤ)
-    → natAbs (fourTerms x row k a b c d) ≤ natAbs x + largest row * (natAbs a + natAbs b + natAbs c + natAbs d)
-unfolding fourTerms
-four-size row k x a b c d =
-    omega (
-      arith,
-      four-parts (largest row) (natAbs a) (natAbs b) (natAbs c) (natAbs d),
-      more-size x row a (k + 3),
-      more-size (x +ℤ a *ℤ ofInts row (k + 3)) row b (k + 2),
-      more-size (x +ℤ a *ℤ ofInts row (k + 3) +ℤ b *ℤ ofInts row (k + 2)) row c (k + 1),
-      more-size (x +ℤ a *ℤ ofInts row (k + 3) +ℤ b *ℤ ofInts row (k + 2) +ℤ c *ℤ ofInts row (k + 1)) row d k,
-    )
-
--- Room for eight terms beside each entry of acc is room for the first four and for the last four.
-pub front-room : (acc row : List ℤ) (k : ℕ) (a b c d : ℤ) (s : ℕ)
-    → largest acc + largest row * (natAbs a + natAbs b + natAbs c + natAbs d + s) < 2 ^ 15 → Room row (ofInts acc k) a b c d
-front-room acc row k a b c d s h =
-    omega (arith, h, mul-add (largest row) (natAbs a + natAbs b + natAbs c + natAbs d) s, le-largest acc k)
-
-pub back-room : (acc row : List ℤ) (k l : ℕ) (a b c d e f g h : ℤ)
-    → largest acc + largest row * (natAbs a + natAbs b + natAbs c + natAbs d + (natAbs e + natAbs f + natAbs g + natAbs h)) < 2 ^ 15
-    → Room row (fourTerms (ofInts acc k) row l a b c d) e f g h
-back-room acc row k l a b c d e f g h room =
-    omega (
-      arith,
-      room,
-      mul-add (largest row) (natAbs a + natAbs b + natAbs c + natAbs d) (natAbs e + natAbs f + natAbs g + natAbs h),
-      le-largest acc k,
-      four-size row l (ofInts acc k) a b c d,
-    )
+-- Room beside each entry of acc for a term with each of row.
+pub term-room : (acc row : List ℤ) (a : ℤ) (k : ℕ) → largest acc + largest row * natAbs a < 2 ^ 15 → natAbs (ofInts acc k) + natAbs a * natAbs (ofInts row k) < 2 ^ 15
+term-room acc row a k h =
+    let term : natAbs a * natAbs (ofInts row k) ≤ largest row * natAbs a =
+    rw (mul-comm (natAbs a) (natAbs (ofInts row k))) (mul-le-mul (le-largest row k) (le-refl (natAbs a))) in
+    omega (arith, h, le-largest acc k, term)
 
 -- ---- columns
 
@@ -146,70 +68,33 @@ pub columns-all : (r v : Poly) → tabulate 64 (columns r v 64) ≡ tabulate 64 
 unfolding columns toeplitz
 columns-all r v = refl
 
-columns-four : (r v : Poly) (i k : ℕ) → columns r v (i + 4) k ≡ columns r v i k +ℤ v i *ℤ r (64 - i + k)
-    +ℤ v (i + 1) *ℤ r (64 - (i + 1) + k)
-    +ℤ v (i + 2) *ℤ r (64 - (i + 2) + k)
-    +ℤ v (i + 3) *ℤ r (64 - (i + 3) + k)
-unfolding columns sum
-columns-four r v i k = simp (towards-suc, +ℤ-assoc)
-
--- Four terms more, of a row from place u on.
-four-terms : (row xs part : List ℤ) (i u k : ℕ) {x p q r s : ℤ}
-    → ((j w : ℕ) → i ≤ j → j < i + 4 → j + w ≡ i + 3 + u → ofInts part w ≡ ofInts row (64 - j + k))
-    → p ≡ ofInts xs i → q ≡ ofInts xs (i + 1) → r ≡ ofInts xs (i + 2) → s ≡ ofInts xs (i + 3)
-    → x ≡ columns (ofInts row) (ofInts xs) i k
-    → fourTerms x part u p q r s ≡ columns (ofInts row) (ofInts xs) (i + 4) k
-unfolding fourTerms
-four-terms row xs part i u k met ep eq er es e =
-    rw (
-      ep,
-      eq,
-      er,
-      es,
-      e,
-      met i (u + 3) (omega arith) (omega arith) (omega arith),
-      met (i + 1) (u + 2) (omega arith) (omega arith) (omega arith),
-      met (i + 2) (u + 1) (omega arith) (omega arith) (omega arith),
-      met (i + 3) u (omega arith) (omega arith) (omega arith),
-    )
-    (sym (columns-four (ofInts row) (ofInts xs) i k))
-
--- The part of a row that eight columns reach.
+-- The part of a row that column i reaches.
 abbrev pub reached : ℕ → ℕ → List ℤ → List ℤ
-reached n i row = take (2 * n - i - (n - i - 7)) (drop (n - i - 7) row)
+reached n i row = take (2 * n - i - (n - i)) (drop (n - i) row)
 
-pub eight-long : (n i : ℕ) (row : List ℤ) → i + 8 ≤ n → length row ≡ 2 * n → length (reached n i row) ≡ n + 7
-eight-long n i row h s =
-    let whole : 2 * n - i - (n - i - 7) ≡ n + 7 = omega arith in
-    let rest : n + 7 ≤ length row - (n - i - 7) = omega arith in
+pub column-long : (n i : ℕ) (row : List ℤ) → i < n → length row ≡ 2 * n → length (reached n i row) ≡ n
+column-long n i row h s =
+    let whole : 2 * n - i - (n - i) ≡ n = omega arith in
+    let rest : n ≤ length row - (n - i) = omega arith in
     rw whole (simp (length-take, length-drop) (min-eq-left rest))
 
--- What the code adds to acc is eight columns.
-pub eight-more : (n i : ℕ) (row xs acc : List ℤ) {l : ℕ} {a b c d e f g h : ℤ} → n ≡ 64 → l ≡ 64 → i + 8 ≤ 64
-    → acc ≡ tabulate 64 (columns (ofInts row) (ofInts xs) i)
-    → a ≡ ofInts xs i → b ≡ ofInts xs (i + 1) → c ≡ ofInts xs (i + 2) → d ≡ ofInts xs (i + 3)
-    → e ≡ ofInts xs (i + 4) → f ≡ ofInts xs (i + 5) → g ≡ ofInts xs (i + 6) → h ≡ ofInts xs (i + 7)
-    → tabulate l (addEight acc (reached n i row) a b c d e f g h) ≡ tabulate 64 (columns (ofInts row) (ofInts xs) (i + 8))
-unfolding addEight
-eight-more n i row xs acc {l} {a} {b} {c} {d} {e} {f} {g} {h} same long room is ea eb ec ed ee ef eg eh =
-    let m = 2 * n - i - (n - i - 7) in
-    let o = n - i - 7 in
-    let met : (k j u : ℕ) → k < 64 → i ≤ j → j < i + 8 → j + u ≡ i + 7 + k → ofInts (reached n i row) u ≡ ofInts row (64 - j + k) =
-    λ k j u hk l g s.
-    let inside : u < m = omega arith in
-    let place : o + u ≡ 64 - j + k = omega arith in
-    getD-take m (drop o row) u (pos 0) inside ∙ getD-drop o row u (pos 0) ∙ ap (ofInts row) place
-    in
-    let entry : (j l : ℕ) → j ≡ l → ofInts xs j ≡ ofInts xs l = λ j l q. ap (ofInts xs) q in
-    let whole : i + 4 + 4 ≡ i + 8 = omega arith in
-    ap (λ (t : ℕ). tabulate t (addEight acc (reached n i row) a b c d e f g h)) long
-    ∙ tabulate-ext 64 (addEight acc (reached n i row) a b c d e f g h) (columns (ofInts row) (ofInts xs) (i + 8))
+-- What the code adds to acc is a column.
+pub column-more : (n i : ℕ) (row v acc : List ℤ) {l : ℕ} {a : ℤ} → n ≡ 64 → l ≡ 64 → i < 64
+    → acc ≡ tabulate 64 (columns (ofInts row) (ofInts v) i) → a ≡ ofInts v i
+    → tabulate l (λ k. ofInts acc k +ℤ a *ℤ ofInts (reached n i row) k) ≡ tabulate 64 (columns (ofInts row) (ofInts v) (i + 1))
+unfolding columns sum
+column-more n i row v acc {l} {a} same long turn is e =
+    let m = 2 * n - i - (n - i) in
+    let o = n - i in
+    ap (λ (t : ℕ). tabulate t (λ k. ofInts acc k +ℤ a *ℤ ofInts (reached n i row) k)) long
+    ∙ tabulate-ext 64 (λ k. ofInts acc k +ℤ a *ℤ ofInts (reached n i row) k) (columns (ofInts row) (ofInts v) (i + 1))
     (λ k hk.
-    four-terms row xs (reached n i row) (i + 4) k k (λ j v l g s. met k j v hk (omega arith) (omega arith) (omega arith))
-    ee (ef ∙ entry (i + 5) (i + 4 + 1) (omega arith)) (eg ∙ entry (i + 6) (i + 4 + 2) (omega arith)) (eh ∙ entry (i + 7) (i + 4 + 3) (omega arith))
-    (four-terms row xs (reached n i row) i (k + 4) k (λ j v l g s. met k j v hk (omega arith) (omega arith) (omega arith)) ea eb ec ed
-    (ap (λ (l : List ℤ). ofInts l k) is ∙ tabulate-at 64 (columns (ofInts row) (ofInts xs) i) k (pos 0) hk))
-    ∙ ap (λ (l : ℕ). columns (ofInts row) (ofInts xs) l k) whole)
+    let inside : k < m = omega arith in
+    let place : o + k ≡ 64 - i + k = omega arith in
+    ap₂ _+ℤ_
+    (ap (λ (l : List ℤ). ofInts l k) is ∙ tabulate-at 64 (columns (ofInts row) (ofInts v) i) k (pos 0) hk)
+    (ap₂ _*ℤ_ e (getD-take m (drop o row) k (pos 0) inside ∙ getD-drop o row k (pos 0) ∙ ap (ofInts row) place))
+    ∙ ap (λ (j : ℕ). columns (ofInts row) (ofInts v) j k) (sym (add-one i)))
 
 -- ---- sizes of columns
 
@@ -231,35 +116,15 @@ sums-size row v acc i e =
     let inside : k < 64 = rw (length-tabulate 64 f) at h in
     rw (tabulate-at 64 f k (pos 0) inside) (columns-size row v i k)))
 
-entry-size : (v : List ℤ) (j : ℕ) {a : ℤ} → a ≡ ofInts v j → natAbs a ≤ largest v
-entry-size v j e = rw e (le-largest v j)
-
--- Where the terms of 64 columns have room, eight columns have it beside those that are added.
-pub eight-room : (n i : ℕ) (row v acc : List ℤ) {a b c d e f g h : ℤ} → i + 8 ≤ 64 → acc ≡ tabulate 64 (columns (ofInts row) (ofInts v) i)
-    → Bounded 64 row v
-    → a ≡ ofInts v i → b ≡ ofInts v (i + 1) → c ≡ ofInts v (i + 2) → d ≡ ofInts v (i + 3)
-    → e ≡ ofInts v (i + 4) → f ≡ ofInts v (i + 5) → g ≡ ofInts v (i + 6) → h ≡ ofInts v (i + 7)
-    → largest acc + largest (reached n i row) * (natAbs a + natAbs b + natAbs c + natAbs d + (natAbs e + natAbs f + natAbs g + natAbs h)) < 2 ^ 15
-eight-room n i row v acc {a} {b} {c} {d} {e} {f} {g} {h} room is bound ea eb ec ed ee ef eg eh =
+-- Where the terms of 64 columns have room, one more has it beside those that are added.
+pub column-room : (n i : ℕ) (row v acc : List ℤ) {a : ℤ} → i < 64 → acc ≡ tabulate 64 (columns (ofInts row) (ofInts v) i)
+    → Bounded 64 row v → a ≡ ofInts v i → largest acc + largest (reached n i row) * natAbs a < 2 ^ 15
+column-room n i row v acc {a} turn is bound e =
     let p : ℕ = largest row * largest v in
-    let s : ℕ = natAbs a + natAbs b + natAbs c + natAbs d + (natAbs e + natAbs f + natAbs g + natAbs h) in
-    let factors : s ≤ largest v * 8 =
-    omega (
-      arith,
-      entry-size v i ea,
-      entry-size v (i + 1) eb,
-      entry-size v (i + 2) ec,
-      entry-size v (i + 3) ed,
-      entry-size v (i + 4) ee,
-      entry-size v (i + 5) ef,
-      entry-size v (i + 6) eg,
-      entry-size v (i + 7) eh,
-    ) in
-    let terms : largest (reached n i row) * s ≤ largest row * (largest v * 8) = mul-le-mul (part-size (n - i - 7) (2 * n - i - (n - i - 7)) row) factors in
-    let eight : largest row * (largest v * 8) ≡ p * 8 = sym (mul-assoc (largest row) (largest v) 8) in
-    let all : (i + 8) * p ≤ 64 * p = mul-le-mul room (le-refl p) in
-    let both : (i + 8) * p ≡ i * p + 8 * p = add-mul i 8 p in
-    lt-of-le-of-lt (omega (arith, sums-size row v acc i is, terms, eight, all, both)) (terms-small 64 row v bound)
+    let factor : natAbs a ≤ largest v = rw e (le-largest v i) in
+    let term : largest (reached n i row) * natAbs a ≤ p = mul-le-mul (part-size (n - i) (2 * n - i - (n - i)) row) factor in
+    let all : suc i * p ≤ 64 * p = mul-le-mul turn (le-refl p) in
+    lt-of-le-of-lt (omega (arith, sums-size row v acc i is, term, suc-mul i p, all)) (terms-small 64 row v bound)
 
 -- ---- the sums added to acc
 

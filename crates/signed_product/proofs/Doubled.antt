@@ -1,11 +1,11 @@
 -- Laws of the row that holds the Toeplitz matrix of a factor. Assumes nothing.
-use mathlib.Core.Path.{_≡_, sym, ap, ap₂, _∙_}
-use mathlib.Core.List.{List, _++_}
-use Prim.Native.Nat.{ℕ, _+_, _-_, _*_, _^_, _≤_, _<_}
+use mathlib.Core.Path.{_≡_, sym, ap, _∙_}
+use mathlib.Core.List.{List}
+use Prim.Native.Nat.{ℕ, _+_, _-_, _*_, _≤_, _<_}
 use native.Mathlib.Nat.{le-trans}
 use native.Mathlib.Omega.{arith}
-use lib.IntN.{ℤ, pos, negℤ, natAbs, _+ℤ_, _*ℤ_}
-use lib.ListN.{length, getD, length-append, List·getD-append}
+use lib.IntN.{ℤ, pos, negℤ, _+ℤ_, _*ℤ_}
+use lib.ListN.{length, length-append, List·getD-append}
 use lib.Seq.{getD-append-add}
 use Rattle.hash.specs.Lists.{tabulate}
 use Rattle.hash.proofs.Entries.{tabulate-at, length-tabulate}
@@ -18,7 +18,7 @@ use Rattle.ring.proofs.Ring.{sides, shifted-low, shifted-high}
 use Rattle.ring.proofs.Sums.{sum-ext}
 use Rattle.ring.proofs.Sizes.{le-largest, largest-le}
 use Rattle.product.specs.Toeplitz.{toeplitz}
-use Rattle.signed_product.specs.Toeplitz.{withToeplitz, Bounded, Sum, Factors}
+use Rattle.signed_product.specs.Toeplitz.{withToeplitz, Sum, Factors}
 use Rattle.signed_product.specs.Halves.{doubled}
 
 pub doubled-long : (b : List ℤ) → length (doubled b) ≡ 2 * length b

@@ -1,11 +1,11 @@
 -- Laws of the lists that the product by halves reads and leaves, over the integers. Assumes nothing.
-use mathlib.Core.Path.{_≡_, refl, sym, ap, ap₂, _∙_}
+use mathlib.Core.Path.{_≡_, sym, ap, ap₂, _∙_}
 use mathlib.Core.List.{List, _++_}
 use Prim.Native.Nat.{ℕ, _+_, _-_, _*_, _^_, _≤_, _<_}
-use native.Mathlib.Nat.{zero-add, le-trans, le-refl, lt-of-lt-of-le, mul-le-mul, mul-comm, add-mul, mul-add}
+use native.Mathlib.Nat.{zero-add, le-trans, mul-le-mul, mul-comm, add-mul, mul-add}
 use native.Mathlib.Omega.{arith}
 use lib.IntN.{ℤ, pos, negℤ, natAbs, _+ℤ_, _-ℤ_, _*ℤ_, +ℤ-idl, +ℤ-idr, zero-*ℤ}
-use lib.ListN.{length, getD, take, drop, replicate, length-drop, length-take, length-replicate}
+use lib.ListN.{length, take, drop, replicate, length-drop, length-replicate}
 use lib.Seq.{getD-take, getD-drop, length-take-le}
 use Rattle.hash.specs.Lists.{tabulate}
 use Rattle.hash.proofs.Entries.{tabulate-at, length-tabulate, tabulate-add}
@@ -20,7 +20,7 @@ use Rattle.ring.proofs.Modular.{cong-of-eq, cong-refl, cong-trans, cong-add}
 use Rattle.product.specs.Toeplitz.{toeplitz}
 use Rattle.product.proofs.Halving.{from, toeplitz-cong, upper, lower}
 use Rattle.product.proofs.Joining.{nothing-at, rest, putRest, rest-long, first-long, front-long, first-of, second-of, replaced}
-use Rattle.signed_product.specs.Toeplitz.{withToeplitz, Bounded, Matrix, Sum}
+use Rattle.signed_product.specs.Toeplitz.{withToeplitz, Bounded, Sum}
 use Rattle.signed_product.specs.Halves.{folded, rowDifference, added}
 use Rattle.signed_product.proofs.Small.{part-size, front-size}
 

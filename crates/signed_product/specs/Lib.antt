@@ -1,4 +1,3 @@
 -- What the contracts of `signed_product` say.
-pub mod Terms
 pub mod Toeplitz
 pub mod Halves

@@ -1,17 +1,15 @@
 -- `signed_product::copy` meets its contract: after k turns the first k coefficients are copied.
 -- Assumes nothing.
-use mathlib.Core.Path.{_≡_, refl, sym, ap, ap₂, _∙_}
-use Prim.Native.Nat.{_+_, _-_, _≤_}
+use mathlib.Core.Path.{_≡_, refl, _∙_}
+use Prim.Native.Nat.{_-_, _≤_}
 use native.Mathlib.Omega.{arith}
 use denote.Ref.{now}
-use lib.IntN.{ℤ, pos, negℤ, _+ℤ_, _-ℤ_, +ℤ-idl}
+use lib.IntN.{pos}
 use lib.ListN.{length, getD, length-set}
-use mir.Syntax.{w16, w32}
-use mir.Val.{toZ, ofZ}
+use mir.Syntax.{w16}
 use mir.ValLaws.{toZ-ofZ}
-use Rattle.bits.proofs.Filling.{filled, filled-none, filled-more, filled-at, filled-all, tabulate-entries}
-use Rattle.ring.specs.Poly.{plus, minus, ofInts}
-use Rattle.ring.proofs.Sizes.{le-largest}
+use Rattle.bits.proofs.Filling.{filled, filled-none, filled-more, filled-all, tabulate-entries}
+use Rattle.ring.specs.Poly.{ofInts}
 use Rattle.signed_product.proofs.copy.Statement.{statement}
 use Rattle.signed_product.proofs.copy.Tie as tie
 
@@ -46,8 +44,7 @@ loop-again : tie.Need-loop-again Inv-loop μ-loop
 loop-again c =
     let h = c .before .before .loop in
     let a = c .before .before .before .args in
-    let y = getD (now (a .src)) (h .k) (pos 0) in
-    (
+    let y = getD (now (a .src)) (h .k) (pos 0) in (
       omega arith,
       simp length-set (h .inv .1),
       filled-more (h .k) (ofInts (now (a .src))) (now (a .dst)) (pos 0) (omega arith) (h .inv .2) (toZ-ofZ w16 y (record { sfits = c .dst .given })),

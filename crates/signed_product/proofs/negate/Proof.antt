@@ -1,16 +1,16 @@
 -- `signed_product::negate` meets its contract: after k turns the first k coefficients are negated.
 -- Assumes nothing.
-use mathlib.Core.Path.{_≡_, refl, sym, ap, ap₂, _∙_}
-use Prim.Native.Nat.{_+_, _-_, _≤_}
+use mathlib.Core.Path.{_≡_, refl, ap, _∙_}
+use Prim.Native.Nat.{_-_, _≤_}
 use native.Mathlib.Omega.{arith}
 use denote.Ref.{now}
-use lib.IntN.{ℤ, pos, negℤ, _+ℤ_, _-ℤ_, +ℤ-idl}
+use lib.IntN.{ℤ, pos, negℤ, _-ℤ_, +ℤ-idl}
 use lib.ListN.{length, getD, length-set}
-use mir.Syntax.{w16, w32}
+use mir.Syntax.{w16}
 use mir.Val.{toZ, ofZ}
 use mir.ValLaws.{toZ-ofZ}
-use Rattle.bits.proofs.Filling.{filled, filled-none, filled-more, filled-at, filled-all, tabulate-entries}
-use Rattle.ring.specs.Poly.{plus, minus, ofInts}
+use Rattle.bits.proofs.Filling.{filled, filled-none, filled-more, filled-all}
+use Rattle.ring.specs.Poly.{ofInts}
 use Rattle.ring.proofs.Sizes.{le-largest}
 use Rattle.signed_product.proofs.negate.Statement.{statement}
 use Rattle.signed_product.proofs.negate.Tie as tie
@@ -55,8 +55,7 @@ loop-again c =
     let h = c .before .before .before .loop in
     let a = c .before .before .before .before .args in
     let y = getD (now (a .src)) (h .k) (pos 0) in
-    let sy : toZ w16 (ofZ w16 y) ≡ y = toZ-ofZ w16 y (record { sfits = c .before .difference-arg .given }) in
-    (
+    let sy : toZ w16 (ofZ w16 y) ≡ y = toZ-ofZ w16 y (record { sfits = c .before .difference-arg .given }) in (
       omega arith,
       simp length-set (h .inv .1),
       filled-more (h .k) (λ j. negℤ (ofInts (now (a .src)) j)) (now (a .dst)) (pos 0) (omega arith) (h .inv .2)

@@ -1,16 +1,16 @@
 -- `signed_product::halves::add` meets its contract: after k turns the first k entries are added.
 -- Assumes nothing.
-use mathlib.Core.Path.{_≡_, refl, sym, ap, ap₂, _∙_}
-use Prim.Native.Nat.{_+_, _-_, _≤_}
+use mathlib.Core.Path.{_≡_, refl, ap₂, _∙_}
+use Prim.Native.Nat.{_-_, _≤_}
 use native.Mathlib.Omega.{arith}
 use denote.Ref.{now}
-use lib.IntN.{ℤ, pos, negℤ, _+ℤ_, _-ℤ_, +ℤ-idl}
+use lib.IntN.{pos, _+ℤ_}
 use lib.ListN.{length, getD, length-set}
-use mir.Syntax.{w16, w32}
+use mir.Syntax.{w32}
 use mir.Val.{toZ, ofZ}
 use mir.ValLaws.{toZ-ofZ}
-use Rattle.bits.proofs.Filling.{filled, filled-none, filled-more, filled-at, filled-all, tabulate-entries}
-use Rattle.ring.specs.Poly.{plus, minus, ofInts}
+use Rattle.bits.proofs.Filling.{filled, filled-none, filled-more, filled-at, filled-all}
+use Rattle.ring.specs.Poly.{plus, ofInts}
 use Rattle.ring.proofs.Sizes.{le-largest}
 use Rattle.signed_product.proofs.halves.add.Statement.{statement}
 use Rattle.signed_product.proofs.halves.add.Tie as tie
@@ -67,8 +67,7 @@ loop-again c =
     let y = getD (now (a .b)) (h .k) (pos 0) in
     let sx : toZ w32 (ofZ w32 x) ≡ x = toZ-ofZ w32 x (record { sfits = c .before .before .wide-sum-arg .given }) in
     let sy : toZ w32 (ofZ w32 y) ≡ y = toZ-ofZ w32 y (record { sfits = c .before .wide-sum-arg2 .given }) in
-    let there : x ≡ ofInts (now (a .acc)) (h .k) = filled-at (h .k) (h .k) _ (now (a .acc)) (pos 0) (omega arith) (h .inv .2) in
-    (
+    let there : x ≡ ofInts (now (a .acc)) (h .k) = filled-at (h .k) (h .k) _ (now (a .acc)) (pos 0) (omega arith) (h .inv .2) in (
       omega arith,
       simp length-set (h .inv .1),
       filled-more (h .k) (plus (ofInts (now (a .acc))) (ofInts (now (a .b)))) (now (a .acc)) (pos 0) (omega arith) (h .inv .2)

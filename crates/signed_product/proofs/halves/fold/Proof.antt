@@ -1,16 +1,16 @@
 -- `signed_product::halves::fold` meets its contract: after k turns the first k entries are written.
 -- Assumes nothing.
-use mathlib.Core.Path.{_≡_, refl, sym, ap, ap₂, _∙_}
+use mathlib.Core.Path.{_≡_, refl, ap₂, _∙_}
 use Prim.Native.Nat.{_+_, _-_, _≤_}
 use native.Mathlib.Omega.{arith}
 use denote.Ref.{now}
-use lib.IntN.{ℤ, pos, negℤ, _+ℤ_, _-ℤ_, +ℤ-idl}
+use lib.IntN.{pos, _+ℤ_}
 use lib.ListN.{length, getD, length-set}
-use mir.Syntax.{w16, w32}
+use mir.Syntax.{w16}
 use mir.Val.{toZ, ofZ}
 use mir.ValLaws.{toZ-ofZ}
-use Rattle.bits.proofs.Filling.{filled, filled-none, filled-more, filled-at, filled-all, tabulate-entries}
-use Rattle.ring.specs.Poly.{plus, minus, ofInts}
+use Rattle.bits.proofs.Filling.{filled, filled-none, filled-more, filled-all}
+use Rattle.ring.specs.Poly.{plus, ofInts}
 use Rattle.ring.proofs.Sizes.{le-largest}
 use Rattle.signed_product.specs.Halves.{folded}
 use Rattle.signed_product.proofs.halves.fold.Statement.{statement}
@@ -69,8 +69,7 @@ loop-again c =
     let x = getD (now (a .v)) (h .k) (pos 0) in
     let y = getD (now (a .v)) (length (now (a .dst)) + h .k) (pos 0) in
     let sx : toZ w16 (ofZ w16 x) ≡ x = toZ-ofZ w16 x (record { sfits = c .before .before .sum-arg .given }) in
-    let sy : toZ w16 (ofZ w16 y) ≡ y = toZ-ofZ w16 y (record { sfits = c .before .sum-arg2 .given }) in
-    (
+    let sy : toZ w16 (ofZ w16 y) ≡ y = toZ-ofZ w16 y (record { sfits = c .before .sum-arg2 .given }) in (
       omega arith,
       simp length-set (h .inv .1),
       filled-more (h .k) (plus (ofInts (now (a .v))) (λ i. ofInts (now (a .v)) (length (now (a .dst)) + i))) (now (a .dst)) (pos 0) (omega arith) (h .inv .2)

@@ -1,16 +1,16 @@
 -- `signed_product::halves::row_difference` meets its contract: after k turns the first k entries are written.
 -- Assumes nothing.
-use mathlib.Core.Path.{_≡_, refl, sym, ap, ap₂, _∙_}
+use mathlib.Core.Path.{_≡_, refl, ap₂, _∙_}
 use Prim.Native.Nat.{_+_, _-_, _≤_}
 use native.Mathlib.Omega.{arith}
 use denote.Ref.{now}
-use lib.IntN.{ℤ, pos, negℤ, _+ℤ_, _-ℤ_, +ℤ-idl}
+use lib.IntN.{pos, _-ℤ_}
 use lib.ListN.{length, getD, length-set}
-use mir.Syntax.{w16, w32}
+use mir.Syntax.{w16}
 use mir.Val.{toZ, ofZ}
 use mir.ValLaws.{toZ-ofZ}
-use Rattle.bits.proofs.Filling.{filled, filled-none, filled-more, filled-at, filled-all, tabulate-entries}
-use Rattle.ring.specs.Poly.{plus, minus, ofInts}
+use Rattle.bits.proofs.Filling.{filled, filled-none, filled-more, filled-all}
+use Rattle.ring.specs.Poly.{minus, ofInts}
 use Rattle.ring.proofs.Sizes.{le-largest}
 use Rattle.signed_product.specs.Halves.{rowDifference}
 use Rattle.signed_product.proofs.halves.row_difference.Statement.{statement}
@@ -72,8 +72,7 @@ loop-again c =
     let x = getD (now (a .row)) (a .a + h .k) (pos 0) in
     let y = getD (now (a .row)) (a .b + h .k) (pos 0) in
     let sx : toZ w16 (ofZ w16 x) ≡ x = toZ-ofZ w16 x (record { sfits = c .before .before .difference-arg .given }) in
-    let sy : toZ w16 (ofZ w16 y) ≡ y = toZ-ofZ w16 y (record { sfits = c .before .difference-arg2 .given }) in
-    (
+    let sy : toZ w16 (ofZ w16 y) ≡ y = toZ-ofZ w16 y (record { sfits = c .before .difference-arg2 .given }) in (
       omega arith,
       simp length-set (h .inv .1),
       filled-more (h .k) (minus (λ i. ofInts (now (a .row)) (a .a + i)) (λ i. ofInts (now (a .row)) (a .b + i))) (now (a .dst)) (pos 0) (omega arith) (h .inv .2)

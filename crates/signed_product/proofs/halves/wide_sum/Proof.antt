@@ -1,14 +1,12 @@
 -- `signed_product::halves::wide_sum` meets its contract: the result fits.
 -- Assumes nothing.
-use mathlib.Core.Path.{_≡_, _∙_}
-use Prim.Native.Nat.{ℕ, _+_, _^_, _<_}
 use native.Mathlib.Omega.{arith}
-use lib.IntN.{negℤ, natAbs, _+ℤ_, _-ℤ_}
+use lib.IntN.{_+ℤ_}
 use mir.Syntax.{w32}
-use mir.Val.{SFits, toZ, ofZ}
+use mir.Val.{SFits}
 use mir.ValLaws.{toZ-ofZ}
 use Rattle.ring.proofs.Sizes.{fits-abs}
-use Rattle.ring.proofs.Integers.{natAbs-add, natAbs-neg}
+use Rattle.ring.proofs.Integers.{natAbs-add}
 use Rattle.signed_product.proofs.halves.wide_sum.Statement.{statement}
 use Rattle.signed_product.proofs.halves.wide_sum.Tie as tie
 

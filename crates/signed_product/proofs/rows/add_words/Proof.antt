@@ -24,24 +24,24 @@ abbrev μ-loop : tie.MeasureT-loop
 loop-holds : tie.Need-loop-holds Inv-loop μ-loop
 loop-holds c = (omega arith, refl, filled-none _ _)
 
-mul-wide-sum : tie.Need-mul-wide-sum Inv-loop μ-loop
-mul-wide-sum c = omega arith
+mul-add-word : tie.Need-mul-add-word Inv-loop μ-loop
+mul-add-word c = omega arith
 
-slice-copy-out-wide-sum : tie.Need-slice-copy-out-wide-sum Inv-loop μ-loop
-slice-copy-out-wide-sum c = omega arith
+slice-copy-out-add-word : tie.Need-slice-copy-out-add-word Inv-loop μ-loop
+slice-copy-out-add-word c = omega arith
 
-mul-wide-sum-2 : tie.Need-mul-wide-sum-2 Inv-loop μ-loop
-mul-wide-sum-2 c = omega arith
+mul-add-word-2 : tie.Need-mul-add-word-2 Inv-loop μ-loop
+mul-add-word-2 c = omega arith
 
-shared-slice-copy-out-wide-sum : tie.Need-shared-slice-copy-out-wide-sum Inv-loop μ-loop
-shared-slice-copy-out-wide-sum c = omega arith
+shared-slice-copy-out-add-word : tie.Need-shared-slice-copy-out-add-word Inv-loop μ-loop
+shared-slice-copy-out-add-word c = omega arith
 
-wide-sum-requires : tie.Need-wide-sum-requires Inv-loop μ-loop
-wide-sum-requires c κs =
+add-word-requires : tie.Need-add-word-requires Inv-loop μ-loop
+add-word-requires c κs =
     let h = c .before .before .before .loop in
     let a = c .before .before .before .before .args in
     let y = getD (h .acc) (h .k) (pos 0) in
-    let sy : toZ w32 (ofZ w32 y) ≡ y = toZ-ofZ w32 y (record { sfits = c .before .wide-sum-arg .given }) in
+    let sy : toZ w32 (ofZ w32 y) ≡ y = toZ-ofZ w32 y (record { sfits = c .before .add-word-arg .given }) in
     let there : y ≡ ofInts (now (a .acc)) (h .k) = filled-at (h .k) (h .k) _ (now (a .acc)) (pos 0) (omega arith) (h .inv .2) in
     rw (sy, there) (omega (arith, le-largest (now (a .acc)) (h .k), c .before .before .before .before .pre .1))
 
@@ -63,13 +63,13 @@ loop-again c =
     let a = c .before .before .before .before .before .args in
     let x = getD (now (a .xs)) (h .k) (pos 0) in
     let y = getD (h .acc) (h .k) (pos 0) in
-    let sx : toZ w16 (ofZ w16 x) ≡ x = toZ-ofZ w16 x (record { sfits = c .before .wide-sum-arg2 .given }) in
-    let sy : toZ w32 (ofZ w32 y) ≡ y = toZ-ofZ w32 y (record { sfits = c .before .before .wide-sum-arg .given }) in
+    let sx : toZ w16 (ofZ w16 x) ≡ x = toZ-ofZ w16 x (record { sfits = c .before .add-word-arg2 .given }) in
+    let sy : toZ w32 (ofZ w32 y) ≡ y = toZ-ofZ w32 y (record { sfits = c .before .before .add-word-arg .given }) in
     let there : y ≡ ofInts (now (a .acc)) (h .k) = filled-at (h .k) (h .k) _ (now (a .acc)) (pos 0) (omega arith) (h .inv .2) in (
       omega arith,
       simp length-set (h .inv .1),
       filled-more (h .k) (plus (ofInts (now (a .acc))) (ofInts (now (a .xs)))) (now (a .acc)) (pos 0) (omega arith) (h .inv .2)
-          (toZ-ofZ w32 (c .wide-sum .result) (record { sfits = c .wide-sum .ok }) ∙ c .wide-sum .ensures ∙ ap₂ _+ℤ_ (sy ∙ there) sx),
+          (toZ-ofZ w32 (c .add-word .result) (record { sfits = c .add-word .ok }) ∙ c .add-word .ensures ∙ ap₂ _+ℤ_ (sy ∙ there) sx),
     )
 
 same-length : tie.Need-same-length Inv-loop μ-loop
@@ -88,11 +88,11 @@ add-words-spec =
     Inv-loop
     μ-loop
     loop-holds
-    mul-wide-sum
-    slice-copy-out-wide-sum
-    mul-wide-sum-2
-    shared-slice-copy-out-wide-sum
-    wide-sum-requires
+    mul-add-word
+    slice-copy-out-add-word
+    mul-add-word-2
+    shared-slice-copy-out-add-word
+    add-word-requires
     mul-t12
     slice-set-from-acc
     add-k
