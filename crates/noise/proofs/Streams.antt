@@ -6,9 +6,9 @@ use Prim.Native.Nat.{ℕ, _+_, _-_, _%_, _^_, _≤_, _<_}
 use native.Mathlib.Nat.{add-assoc, add-sub-cancel-left}
 use native.Mathlib.Omega.{arith}
 use lib.IntN.{ℤ, pos, negℤ, _+ℤ_, _-ℤ_, +ℤ-idl, +ℤ-comm, +ℤ-assoc}
-use lib.ListN.{length, take, drop, replicate, length-take}
+use lib.ListN.{length, take, drop, replicate, length-take, length-append}
 use lib.Pow.{pow-pos}
-use lib.Seq.{take-at, take-add, drop-at, drop-drop}
+use lib.Seq.{length-take-le, take-at, take-add, drop-at, drop-drop}
 use Rattle.hash.specs.Lists.{tabulate}
 use Rattle.hash.specs.Shake.{shake, xorInto}
 use Rattle.hash.proofs.Entries.{length-tabulate}
@@ -20,7 +20,7 @@ use Rattle.ring.specs.Poly.{Poly, plus, minus, dot, ofInts, residues}
 use Rattle.ring.proofs.Ring.{dot-ext}
 use Rattle.ring.proofs.Residues.{residues-at, residues-below, length-residues}
 use Rattle.kindi.specs.declared.Params.{Params}
-use Rattle.kindi.specs.Params.{WellFormed, modulus, storedLength, secretLength, lowLength, paddedLength, highLength, secretsLength, coinsStreamLength}
+use Rattle.kindi.specs.Params.{WellFormed, modulus, storedLength, secretLength, lowLength, paddedLength, highLength, matrixLength, secretsLength, coinsStreamLength}
 use Rattle.kindi.specs.Streams.{coefficient, smallIn, lowIn, lowPart, keySecret, mask, coinsStream, ephemeralBy, ephemeral}
 use Rattle.kindi.specs.Keys.{public, publicPart, matrixSeed, secretSeed}
 use Rattle.kindi.specs.Encrypt.{masked, error}
@@ -28,9 +28,9 @@ use Rattle.kindi.specs.Noise.{keyNoise, noise, noises}
 use Rattle.kindi.proofs.Padding.{length-masked}
 use Rattle.kindi.proofs.Strings.{coefficient-packed}
 use Rattle.pke.proofs.Masks.{masked-is}
-use Rattle.pke.proofs.Joining.{then-next}
+use Rattle.pke.proofs.Made.{keyStreams, streams-long}
 use Rattle.pke.proofs.Assembly.{low-there, length-stream, stream-below}
-use Rattle.noise.specs.Rooms.{valueOf}
+use Rattle.noise.specs.Rooms.{valueOf, Kept}
 use Rattle.noise.specs.Terms.{keyNoiseIn, noiseIn, noisesFrom}
 use Rattle.noise.proofs.Products.{ofInts-table}
 
@@ -178,12 +178,53 @@ unfolding noisesFrom
 streams-split P b coins streams {s} e =
     ap₂ (λ (g z : List ℕ). tabulate (P .n) (noiseIn P b coins g z)) (ap (λ (i : ℕ). take i streams) e) (take-rest s streams ∙ ap (λ (i : ℕ). drop i streams) e)
 
--- They are there once both parts of the work area are written.
-pub streams-written : (P : Params) (γ coins message work : List ℕ) {s m : ℕ} {first second : List ℕ} → s ≡ secretsLength P → m ≡ coinsStreamLength P → s + m ≤ length work
-    → first ≡ shake (P .rate) γ (length (take s work)) → second ≡ maskedStream P coins message
-    → take (s + m) (patched s (s + m - s) second (first ++ drop s work)) ≡ shake (P .rate) γ (secretsLength P) ++ maskedStream P coins message
-streams-written P γ coins message work {s} {m} {first} {second} es em room e1 e2 =
-    let long1 : length (take s work) ≡ s = simp length-take (omega arith) in
-    let size1 : length first ≡ s = ap length e1 ∙ length-shake (P .rate) γ (length (take s work)) ∙ long1 in
-    let size2 : length second ≡ m = ap length e2 ∙ length-masked-stream P coins message ∙ sym em in
-    then-next s m work first second size1 size2 room ∙ ap₂ _++_ (e1 ∙ ap (shake (P .rate) γ) (long1 ∙ es)) e2
+-- ---- the stream of γ in the work area
+
+-- The k entries from a on are the end of the first a + k.
+part-first : (a k : ℕ) (xs : List ℕ) → a ≤ length xs → take k (drop a xs) ≡ drop a (take (a + k) xs)
+part-first a k xs h = sym (ap (drop a) (take-add a k xs) ∙ drop-at (take a xs) (take k (drop a xs)) a (length-take-le a xs h))
+
+-- It is there once both streams of a key are.
+pub stream-there : (P : Params) (sk μ work : List ℕ) {m s : ℕ} → m ≡ matrixLength P → s ≡ secretsLength P
+    → take (m + s) work ≡ keyStreams P μ (secretSeed P sk) → Kept P sk work
+stream-there P sk μ work {m} {s} em es e =
+    let γ : List ℕ = secretSeed P sk in
+    let long : length (take (m + s) work) ≡ m + s = ap length e ∙ streams-long P μ γ ∙ sym (ap₂ _+_ em es) in
+    let room : m ≤ length work = omega (arith, sym (length-take (m + s) work) ∙ long) in
+    ap₂ (λ (i j : ℕ). take i (drop j work)) (sym es) (sym em) ∙ part-first m s work room ∙ ap (drop m) e
+    ∙ drop-at (shake (P .rate) μ (matrixLength P)) (shake (P .rate) γ (secretsLength P)) m (length-shake (P .rate) μ (matrixLength P) ∙ sym em)
+
+-- What is written behind it leaves it.
+pub stream-stays : (P : Params) (sk work ys : List ℕ) (k : ℕ) {m s : ℕ} → m ≡ matrixLength P → s ≡ secretsLength P → m + s ≤ length work
+    → Kept P sk work → Kept P sk (patched (m + s) k ys work)
+stream-stays P sk work ys k {m} {s} em es room kept =
+    let after : List ℕ = patched (m + s) k ys work in
+    let first : take (m + s) after ≡ take (m + s) work = take-at (take (m + s) work) (ys ++ drop k (drop (m + s) work)) (m + s) (length-take-le (m + s) work room) in
+    let long : length (take (m + s) after) ≡ m + s = ap length first ∙ length-take-le (m + s) work room in
+    let room' : m ≤ length after = omega (arith, sym (length-take (m + s) after) ∙ long) in
+    let part : (l : List ℕ) → take (secretsLength P) (drop (matrixLength P) l) ≡ take s (drop m l) = λ l. ap₂ (λ (i j : ℕ). take i (drop j l)) (sym es) (sym em) in
+    part after ∙ part-first m s after room' ∙ ap (drop m) first ∙ sym (part-first m s work (omega (arith, room))) ∙ sym (part work) ∙ kept
+
+-- Behind it stands the stream of the coins, once that is written.
+pub streams-written : (P : Params) (sk coins message work : List ℕ) {m s n : ℕ} {ys : List ℕ} → m ≡ matrixLength P → s ≡ secretsLength P
+    → n ≡ coinsStreamLength P → m + s ≤ length work → Kept P sk work → ys ≡ maskedStream P coins message
+    → take (m + s + n - m) (drop m (patched (m + s) (m + s + n - (m + s)) ys work))
+    ≡ shake (P .rate) (secretSeed P sk) (secretsLength P) ++ maskedStream P coins message
+streams-written P sk coins message work {m} {s} {n} {ys} em es en room kept e =
+    let k : ℕ = m + s + n - (m + s) in
+    let after : List ℕ = patched (m + s) k ys work in
+    let both : m + s + n - m ≡ s + n = omega arith in
+    let long : length ys ≡ n = ap length e ∙ length-masked-stream P coins message ∙ sym en in
+    let rest : List ℕ = drop k (drop (m + s) work) in
+    let first : take s (drop m after) ≡ shake (P .rate) (secretSeed P sk) (secretsLength P)
+    = ap₂ (λ (i j : ℕ). take i (drop j after)) es em ∙ stream-stays P sk work ys k em es room kept in
+    let second : take n (drop s (drop m after)) ≡ maskedStream P coins message
+    = ap (take n) (drop-drop s m after ∙ drop-at (take (m + s) work) (ys ++ rest) (m + s) (length-take-le (m + s) work room)) ∙ take-at ys rest n long ∙ e in
+    ap (λ (i : ℕ). take i (drop m after)) both ∙ take-add s n (drop m after) ∙ ap₂ _++_ first second
+
+-- Both together are as long as their lengths say.
+pub streams-size : (P : Params) (sk coins message : List ℕ)
+    → length (shake (P .rate) (secretSeed P sk) (secretsLength P) ++ maskedStream P coins message) ≡ secretsLength P + coinsStreamLength P
+streams-size P sk coins message =
+    length-append (shake (P .rate) (secretSeed P sk) (secretsLength P)) (maskedStream P coins message)
+    ∙ ap₂ _+_ (length-shake (P .rate) (secretSeed P sk) (secretsLength P)) (length-masked-stream P coins message)

@@ -3,18 +3,23 @@ use mathlib.Core.Path.{_≡_}
 use mathlib.Core.List.{List}
 use Prim.Native.Nat.{ℕ, _+_, _^_, _≤_, _<_}
 use lib.IntN.{ℤ}
-use lib.ListN.{length}
+use lib.ListN.{length, take, drop}
+use Rattle.hash.specs.Shake.{shake}
 use Rattle.bits.specs.Bits.{Below, pack}
 use Rattle.ring.specs.Integers.{largest}
 use Rattle.ring.specs.Poly.{residues}
 use Rattle.kindi.specs.declared.Params.{Params}
-use Rattle.kindi.specs.Params.{WellFormed, modulus, lengthOf, storedLength, secretLength, paddedLength, secretsLength, lowLength, highLength, restLength, coinsStreamLength, noiseWork}
+use Rattle.kindi.specs.Params.{WellFormed, modulus, lengthOf, storedLength, secretLength, paddedLength, matrixLength, secretsLength, lowLength, highLength, restLength, coinsStreamLength, noiseWork}
 use Rattle.kindi.specs.Keys.{joined, public, publicPart, matrixSeed, secretSeed}
 
 -- b in full, k bits a coefficient.
 unfoldable pub valueOf : Params → List ℕ → List ℕ
 valueOf P sk =
     pack (P .k) (joined (P .l) (λ i. residues (modulus P) (P .n) (public P (matrixSeed P (publicPart P sk)) (secretSeed P sk) i)))
+
+-- The work area has the stream of γ behind the room for that of μ.
+abbrev pub Kept : Params → List ℕ → List ℕ → Type 0
+Kept P sk work = take (secretsLength P) (drop (matrixLength P) work) ≡ shake (P .rate) (secretSeed P sk) (secretsLength P)
 
 -- The arguments of `public_value`.
 pub record ValueRoom (P : Params) (sk b work : List ℕ) : Type 0 where
@@ -31,6 +36,7 @@ pub record MeasureRoom (P : Params) (sk b coins message work : List ℕ) : Type 
   pub coins-long : length coins ≡ P .coins
   pub message-fits : length message < paddedLength P
   pub work-long : noiseWork P ≤ length work
+  pub stream-kept : Kept P sk work
 
 -- b in full, and stored polynomials.
 pub record AgreementRoom (P : Params) (b stored : List ℕ) : Type 0 where

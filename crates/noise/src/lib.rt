@@ -8,7 +8,7 @@ ghost use Rattle.kindi.specs.Answers.{agrees, clearUnder, largestUnder};
 ghost use Rattle.hash.proofs.Parts.{patched};
 ghost use Prim.Native.Nat.{_<_, _≤_};
 ghost use lib.ListN.{length};
-ghost use Rattle.noise.specs.Rooms.{valueOf, ValueRoom, MeasureRoom};
+ghost use Rattle.noise.specs.Rooms.{valueOf, Kept, ValueRoom, MeasureRoom};
 
 mod agreement;
 mod factors;
@@ -25,10 +25,12 @@ pub struct Measured {
     pub largest: u32,
 }
 
-// b in full, k bits a coefficient, from a secret key's μ and γ; whether the stored public key agrees with it.
+// b in full, k bits a coefficient, from a secret key's μ and γ; whether the stored public key agrees with it. The stream
+// of γ stays in the work area.
 pub fn public_value(p: Params, sk: &[u8], b: &mut [u8], work: &mut [u8]) -> bool
     requires { ⌜ ValueRoom p (now sk) (now b) (now work) ⌝ }
-    ensures { λ r. ⌜ (r ≡ agrees p (now (sk .entry))) × (now (b .exit) ≡ valueOf p (now (sk .entry))) ⌝ }
+    ensures { λ r. ⌜ (r ≡ agrees p (now (sk .entry))) × (now (b .exit) ≡ valueOf p (now (sk .entry)))
+        × Kept p (now (sk .entry)) (now (work .exit)) ⌝ }
 {
     let matrix = lengths::matrix(p);
     let need = matrix + lengths::secrets(p);
@@ -60,7 +62,8 @@ fn masked_stream(p: Params, coins: &[u8], message: &[u8], stream: &mut [u8])
     add_padded(message, &mut stream[at..end]);
 }
 
-// Whether coins and a message are clear, and the largest absolute value of their noise; b is what `public_value` gives.
+// Whether coins and a message are clear, and the largest absolute value of their noise; b and the stream of γ are what
+// `public_value` leaves.
 pub fn measure(
     p: Params,
     sk: &[u8],
@@ -71,13 +74,12 @@ pub fn measure(
 ) -> Measured
     requires { ⌜ MeasureRoom p (now sk) (now b) (now coins) (now message) (now work) ⌝ }
     ensures { λ r. ⌜ (r .clear ≡ clearUnder p (now (sk .entry)) (now (coins .entry)) (now (message .entry)))
-        × (r .largest ≡ largestUnder p (now (sk .entry)) (now (coins .entry)) (now (message .entry))) ⌝ }
+        × (r .largest ≡ largestUnder p (now (sk .entry)) (now (coins .entry)) (now (message .entry)))
+        × Kept p (now (sk .entry)) (now (work .exit)) ⌝ }
 {
-    let secrets = lengths::secrets(p);
-    let need = secrets + stream_length(p);
-    let public = lengths::stored(p) + p.seed;
-    let end = public + p.seed;
-    hash::shake(p.rate, &sk[public..end], &mut work[..secrets]);
-    masked_stream(p, coins, message, &mut work[secrets..need]);
-    sums::sizes(p, b, coins, &work[..need])
+    let matrix = lengths::matrix(p);
+    let need = matrix + lengths::secrets(p);
+    let end = need + stream_length(p);
+    masked_stream(p, coins, message, &mut work[need..end]);
+    sums::sizes(p, b, coins, &work[matrix..end])
 }

@@ -9,21 +9,22 @@ use lib.ListN.{length}
 use Rattle.kindi.specs.declared.Params.{Params}
 use Rattle.kindi.specs.Answers.{Answer, refused, answered, refuseIf, agrees, clearUnder, largestUnder, clearPlaces, some, Size}
 use Rattle.encryption_calls.proofs.Checked.{Checked, unchecked, check-first, zero-check, refused-number, answered-number, refused-returned, given-returned}
-use Rattle.noise.specs.Rooms.{MeasureRoom, valueOf}
+use Rattle.noise.specs.Rooms.{MeasureRoom, valueOf, Kept}
 use Rattle.noise_calls.specs.Fitting.{noiseFitting, chooseFitting, Place, NoiseRoom, SizeExit, ChooseRoom, PlaceExit, SearchRoom, Search}
 
 -- ---- noise
 
--- Once b is known, the noise may be measured.
+-- Once b and the stream of γ are known, the noise may be measured.
 pub measure-room : {P : Params} {sk coins message b b' work work' : List ℕ} → NoiseRoom P sk coins message b work → b' ≡ valueOf P sk
-    → length work' ≡ length work → MeasureRoom P sk b' coins message work'
-measure-room room is l = record {
+    → length work' ≡ length work → Kept P sk work' → MeasureRoom P sk b' coins message work'
+measure-room room is l kept = record {
   well = room .room .well;
   secret-long = room .room .secret-long;
   value-is = is;
   coins-long = room .coins-long;
   message-fits = room .message-fits;
   work-long = rw l (room .room .work-long);
+  stream-kept = kept;
 }
 
 module _ (P : Params) (sk coins message : List ℕ) {ok : Bool} {status : ℕ} (agree : ok ≡ agrees P sk)
@@ -54,16 +55,17 @@ module _ (P : Params) (sk coins message : List ℕ) {ok : Bool} {status : ℕ} (
 
 -- ---- choose
 
--- Once b is known, the coins may be searched.
+-- Once b and the stream of γ are known, the coins may be searched.
 pub choose-room : {P : Params} {sk message list b b' work work' : List ℕ} → ChooseRoom P sk message list b work → b' ≡ valueOf P sk
-    → length work' ≡ length work → SearchRoom P sk b' message list work'
-choose-room room is l = record {
+    → length work' ≡ length work → Kept P sk work' → SearchRoom P sk b' message list work'
+choose-room room is l kept = record {
   well = room .room .well;
   secret-long = room .room .secret-long;
   value-is = is;
   message-fits = room .message-fits;
   coins-whole = room .coins-whole;
   work-long = rw l (room .room .work-long);
+  stream-kept = kept;
 }
 
 -- The place after a refusal, and after success.

@@ -15,7 +15,7 @@ use Rattle.kindi.specs.Params.{WellFormed, lengthOf}
 use Rattle.kindi.specs.Answers.{some, coinsAt, coinsCount, clearPlaces, clearUnder}
 use Rattle.kindi.proofs.Chains.{never, both}
 use Rattle.pke.proofs.Amounts.{part-length}
-use Rattle.noise.specs.Rooms.{MeasureRoom}
+use Rattle.noise.specs.Rooms.{MeasureRoom, Kept}
 use Rattle.noise_calls.specs.Fitting.{Search, SearchRoom}
 
 -- ---- the search
@@ -131,15 +131,16 @@ search-count {P} {list = list} room =
 
 -- The next coins may be measured.
 pub search-room : {P : Params} {sk b message list work work' : List ℕ} (at : ℕ) → SearchRoom P sk b message list work
-    → at + P .coins ≤ length list → length work' ≡ length work
+    → at + P .coins ≤ length list → length work' ≡ length work → Kept P sk work'
     → MeasureRoom P sk b (take (at + P .coins - at) (drop at list)) message work'
-search-room {P} {list = list} at room h l = record {
+search-room {P} {list = list} at room h l kept = record {
   well = room .well;
   secret-long = room .secret-long;
   value-is = room .value-is;
   coins-long = part-length at (P .coins) list h;
   message-fits = room .message-fits;
   work-long = rw l (room .work-long);
+  stream-kept = kept;
 }
 
 -- ---- b

@@ -9,7 +9,7 @@ use Rattle.kindi.specs.declared.Params.{Params}
 use Rattle.kindi.specs.Params.{WellFormed, secretLength, paddedLength, noiseWork}
 use Rattle.kindi.specs.Answers.{Answer, refused, answered, refuseIf, agrees, clearUnder, largestUnder, clearPlaces, some, Size}
 use Rattle.kindi.specs.Calls.{number, returned}
-use Rattle.noise.specs.Rooms.{ValueRoom, valueOf}
+use Rattle.noise.specs.Rooms.{ValueRoom, valueOf, Kept}
 use Rattle.noise_calls.specs.Status.{wholeCoins}
 
 -- noise after its checks of lengths: refusal 8.
@@ -53,7 +53,7 @@ pub record PlaceExit (answer : Answer (List Bool)) (status place' : ℕ) : Type 
   pub number-is : status ≡ number answer
   pub place-is : Place answer place'
 
--- The arguments of the search for clear coins, once b is known.
+-- The arguments of the search for clear coins, once b and the stream of γ are known.
 pub record SearchRoom (P : Params) (sk b message list work : List ℕ) : Type 0 where
   pub well : WellFormed P
   pub secret-long : length sk ≡ secretLength P
@@ -61,6 +61,7 @@ pub record SearchRoom (P : Params) (sk b message list work : List ℕ) : Type 0 
   pub message-fits : length message < paddedLength P
   pub coins-whole : wholeCoins (P .coins) (length list) ≡ true
   pub work-long : noiseWork P ≤ length work
+  pub stream-kept : Kept P sk work
 
 -- What the search finds: whether some of the coins are clear, and then the place of such.
 pub record Search (places : List Bool) (found : Bool) (place : ℕ) : Type 0 where

@@ -14,7 +14,7 @@ use Rattle.kindi.specs.Answers.{same}
 use Rattle.pke.proofs.Made.{keyStreams, streams-made, streams-long}
 use Rattle.noise.specs.Terms.{droppedBits}
 use Rattle.noise.proofs.Agreeing.{value-made, agrees-is}
-use Rattle.noise.proofs.Streams.{matrix-seed-part, secret-seed-part}
+use Rattle.noise.proofs.Streams.{matrix-seed-part, secret-seed-part, stream-there}
 use Rattle.noise.proofs.public_value.Statement.{statement}
 use Rattle.noise.proofs.public_value.Tie as tie
 
@@ -128,7 +128,7 @@ returns c =
     let sk = now (c .before .before .before .before .before .before .before .before .before .before .before .before .before .before .before .before .before .before .before .before .before .before .before .before .before .before .args .sk) in
     let pre = c .before .before .before .before .before .before .before .before .before .before .before .before .before .before .before .before .before .before .before .before .before .before .before .before .before .before .pre in
     let value = value-made p sk _ (streams (c .before .before .before .before .before .before .before .before .before .before)) (c .before .before .before .before .before .public-polynomials .ensures) in
-    (c .agree .ensures ∙ ap (λ (b : List ℕ). same (take (c .before .before .before .before .before .before .before .before .before .before .before .before .before .before .before .before .before .before .before .before .stored .result) sk) (droppedBits p b)) value ∙ agrees-is p (pre .well) sk (pre .secret-long) (c .before .before .before .before .before .before .before .before .before .before .before .before .before .before .before .before .before .before .before .before .stored .ensures .0), value)
+    (c .agree .ensures ∙ ap (λ (b : List ℕ). same (take (c .before .before .before .before .before .before .before .before .before .before .before .before .before .before .before .before .before .before .before .before .stored .result) sk) (droppedBits p b)) value ∙ agrees-is p (pre .well) sk (pre .secret-long) (c .before .before .before .before .before .before .before .before .before .before .before .before .before .before .before .before .before .before .before .before .stored .ensures .0), value, stream-there p sk _ _ (c .before .before .before .before .before .before .before .before .before .before .before .before .before .before .before .before .before .before .before .before .before .before .matrix .ensures .0) (c .before .before .before .before .before .before .before .before .before .before .before .before .before .before .before .before .before .before .before .before .before .secrets .ensures .0) (streams (c .before .before .before .before .before .before .before .before .before .before)))
 
 pub public-value-spec : {M : Type 1} → statement M
 public-value-spec =

@@ -28,7 +28,7 @@ returns c =
 search-requires : tie.Need-search-requires
 search-requires c κs =
     let value = c .before .before .before .before .before .before .before .before in
-    choose-room (value .before .before .before .before .before .before .before .before .pre) (value .public-value .ensures .1) (value .public-value .kept .1 .1 .1 .0)
+    choose-room (value .before .before .before .before .before .before .before .before .pre) (value .public-value .ensures .1) (value .public-value .kept .1 .1 .1 .0) (value .public-value .ensures .2)
 
 refuse-if-requires-2 : tie.Need-refuse-if-requires-2
 refuse-if-requires-2 c κs = search needs

@@ -1,4 +1,5 @@
--- `noise_calls::choose::search` meets its contract: after i turns it is known of the first i coins whether some are clear.
+-- `noise_calls::choose::search` meets its contract: after i turns it is known of the first i coins whether some are clear, and
+-- the stream of γ is still there.
 -- Assumes nothing.
 use mathlib.Core.Path.{_≡_, refl, _∙_}
 use Prim.Native.Nat.{_+_, _-_, _≤_}
@@ -6,13 +7,14 @@ use native.Mathlib.Omega.{arith}
 use borrow.Author.Needs.{needs}
 use denote.Ref.{now}
 use lib.ListN.{length}
+use Rattle.noise.specs.Rooms.{Kept}
 use Rattle.noise_calls.proofs.Places.{Searching, search-starts, search-goes-on, search-ends, search-count, coins-there, search-room}
 use Rattle.noise_calls.proofs.choose.search.Statement.{statement}
 use Rattle.noise_calls.proofs.choose.search.Tie as tie
 
 abbrev Inv-loop : tie.InvT-loop
 Inv-loop p sk b message list work₀ coins count found₀ place₀ at₀ i₀ work found place at i =
-    (length work ≡ length work₀) × Searching p sk message list at i found place
+    (length work ≡ length work₀) × Kept p sk work × Searching p sk message list at i found place
 
 abbrev μ-loop : tie.MeasureT-loop
 μ-loop p sk b message list work₀ coins count found₀ place₀ at₀ i₀ work found place at i = count - i
@@ -23,14 +25,14 @@ div-count c =
     omega (arith, well .coin-bits, well .some-coefficients)
 
 loop-holds : tie.Need-loop-holds Inv-loop μ-loop
-loop-holds c = (refl, search-starts _ _ _ _)
+loop-holds c = (refl, c .before .before .before .before .before .pre .stream-kept, search-starts _ _ _ _)
 
 cast-loop : tie.Need-cast-loop Inv-loop μ-loop
-cast-loop c = omega (arith, c .loop .inv .1 .within, search-count (c .before .before .before .before .before .before .pre))
+cast-loop c = omega (arith, c .loop .inv .2 .within, search-count (c .before .before .before .before .before .before .pre))
 
 -- The next coins lie within the list.
 there : (c : tie.In-loop Inv-loop μ-loop) → c .before .loop .at + c .before .before .before .before .before .before .before .args .p .coins ≤ length (now (c .before .before .before .before .before .before .before .args .list))
-there c = coins-there (c .before .loop .inv .1) (c .loop-test .taken)
+there c = coins-there (c .before .loop .inv .2) (c .loop-test .taken)
 
 add-measure : tie.Need-add-measure Inv-loop μ-loop
 add-measure c = omega (arith, there c)
@@ -47,7 +49,7 @@ part-measure-end c = omega (arith, there c)
 measure-requires : tie.Need-measure-requires Inv-loop μ-loop
 measure-requires c κs =
     let tested = c .before .before in
-    search-room _ (tested .before .before .before .before .before .before .before .pre) (there tested) (tested .before .loop .inv .0)
+    search-room _ (tested .before .before .before .before .before .before .before .pre) (there tested) (tested .before .loop .inv .0) (tested .before .loop .inv .1)
 
 first-place-requires : tie.Need-first-place-requires Inv-loop μ-loop
 first-place-requires c κs = search needs
@@ -56,7 +58,7 @@ add-at : tie.Need-add-at Inv-loop μ-loop
 add-at c = omega (arith, there (c .before .before .before .before .before .before .before))
 
 add-i : tie.Need-add-i Inv-loop μ-loop
-add-i c = omega (arith, c .before .before .before .before .before .before .before .before .loop .inv .1 .within, search-count (c .before .before .before .before .before .before .before .before .before .before .before .before .before .before .pre))
+add-i c = omega (arith, c .before .before .before .before .before .before .before .before .loop .inv .2 .within, search-count (c .before .before .before .before .before .before .before .before .before .before .before .before .before .before .pre))
 
 loop-less : tie.Need-loop-less Inv-loop μ-loop
 loop-less c = omega (arith, c .before .before .before .before .before .before .before .loop-test .taken)
@@ -66,14 +68,15 @@ loop-again c =
     let measured = c .before .before .before .before in
     let turn = c .before .before .before .before .before .before .before .before .loop in (
       measured .measure .kept .1 .1 .1 .1 .1 .0 ∙ turn .inv .0,
-      search-goes-on (turn .inv .1) (c .before .before .before .before .before .before .before .loop-test .taken) (measured .measure .ensures .0) (c .before .first-place .ensures),
+      measured .measure .ensures .2,
+      search-goes-on (turn .inv .2) (c .before .before .before .before .before .before .before .loop-test .taken) (measured .measure .ensures .0) (c .before .first-place .ensures),
     )
 
 same-length : tie.Need-same-length Inv-loop μ-loop
 same-length c = c .before .loop .inv .0
 
 returns : tie.Need-returns Inv-loop μ-loop
-returns c = search-ends (c .before .loop .inv .1) (c .loop-test .left)
+returns c = search-ends (c .before .loop .inv .2) (c .loop-test .left)
 
 pub search-spec : {M : Type 1} → statement M
 search-spec =

@@ -28,7 +28,7 @@ returns c =
 measure-requires : tie.Need-measure-requires
 measure-requires c κs =
     let value = c .before .before .before .before .before .before .before .before in
-    measure-room (value .before .before .before .before .before .before .before .before .pre) (value .public-value .ensures .1) (value .public-value .kept .1 .1 .1 .0)
+    measure-room (value .before .before .before .before .before .before .before .before .pre) (value .public-value .ensures .1) (value .public-value .kept .1 .1 .1 .0) (value .public-value .ensures .2)
 
 flag-requires : tie.Need-flag-requires
 flag-requires c κs = search needs
