@@ -63,7 +63,7 @@ fn masked_stream(p: Params, coins: &[u8], message: &[u8], stream: &mut [u8])
 }
 
 // Whether coins and a message are clear, and the largest absolute value of their noise; b and the stream of γ are what
-// `public_value` leaves.
+// `public_value` leaves, so of sk, which the promise speaks of, nothing is read again.
 pub fn measure(
     p: Params,
     sk: &[u8],
