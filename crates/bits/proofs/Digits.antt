@@ -9,9 +9,9 @@ use lib.Count.{trailingZeros}
 use lib.ListN.{length, getD, take, drop, length-append, length-map}
 use lib.Seq.{take-at, drop-at}
 use lib.Pow.{pow-add, pow-pos, pow-mono, high, low, mod-pow-add, mod-mod-pow, field, shr-shr}
-use Rattle.hash.specs.Lists.{tabulate, value, digits}
-use Rattle.hash.proofs.Entries.{tabulate-at}
-use Rattle.hash.proofs.Parts.{length-digits}
+use Rattle.keccak.specs.Lists.{tabulate, value, digits}
+use Rattle.keccak.proofs.Entries.{tabulate-at}
+use Rattle.keccak.proofs.Parts.{length-digits}
 use Rattle.bits.specs.Bits.{bytesFor, pack, unpack, lowBits, Below, bit}
 
 -- ---- numbers and their digits

@@ -2,4 +2,3 @@
 pub mod Filling
 pub mod Digits
 pub mod Words
-pub mod Packing

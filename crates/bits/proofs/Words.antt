@@ -8,8 +8,8 @@ use lib.Bits.{bitAnd, and-mask, and-high}
 use lib.ListN.{getD, drop}
 use lib.Pow.{mod-pow-add, pow-add, pow-lt, pow-pos, pow-mono, high-ones, ones-lt, mod-mod-pow, field, shl-exact, shl-lt, shl-shr, shr-shr}
 use lib.Seq.{getD-drop}
-use Rattle.hash.specs.Lists.{tabulate, value, digits}
-use Rattle.hash.proofs.Parts.{length-digits}
+use Rattle.keccak.specs.Lists.{tabulate, value, digits}
+use Rattle.keccak.proofs.Parts.{length-digits}
 use Rattle.bits.proofs.Digits.{digits-add, digits-low, digits-below, digits-of-value, digits-tabulate, value-drop, four-bytes}
 use Rattle.bits.specs.Bits.{Below}
 

@@ -1,9 +1,9 @@
 -- Bit strings (01, "Bits and streams"): coefficients lie one after another without gaps, bit 0 of each first, filling each
--- byte from its bit 0. Rests on the digits of hash's Lists.
+-- byte from its bit 0. Rests on the digits of keccak's Lists.
 use mathlib.Core.List.{List, map}
 use Prim.Native.Nat.{ℕ, _+_, _*_, _/_, _%_, _^_, _<_}
 use lib.ListN.{length, getD}
-use Rattle.hash.specs.Lists.{value, digits}
+use Rattle.keccak.specs.Lists.{value, digits}
 
 -- The bytes that m bits fill; the last of them may hold fewer than eight.
 abbrev pub bytesFor : ℕ → ℕ

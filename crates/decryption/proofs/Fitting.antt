@@ -6,7 +6,7 @@ use Prim.Native.Nat.{ℕ, suc, _*_, _%_, _^_, _<_}
 use native.Mathlib.Nat.{mod-eq-of-lt}
 use native.Mathlib.Omega.{arith}
 use lib.Pow.{pow-pos}
-use Rattle.hash.specs.Shake.{xorInto}
+use Rattle.keccak.specs.Strings.{xorInto}
 use Rattle.bits.specs.Bits.{pack, lowBits, Below}
 use Rattle.kindi.specs.declared.Params.{Params}
 use Rattle.kindi.specs.Params.{WellFormed, width}

@@ -10,7 +10,7 @@ use lib.IntN.{ℤ, pos, _+ℤ_, _-ℤ_}
 use lib.ListN.{length, getD, take, drop}
 use lib.Pow.{pow-pos}
 use lib.Seq.{take-suc}
-use Rattle.hash.proofs.Parts.{take-rest}
+use Rattle.keccak.proofs.Parts.{take-rest}
 use Rattle.bits.specs.Bits.{Below, pack, unpack, lowBits}
 use Rattle.bits.proofs.Digits.{length-unpack, length-lowBits}
 use Rattle.ring.specs.Integers.{Cong}
@@ -24,8 +24,8 @@ use Rattle.kindi.specs.Streams.{coefficient}
 use Rattle.kindi.specs.Keys.{joined}
 use Rattle.kindi.specs.Decrypt.{cipherPart, allBelow}
 use Rattle.kindi.proofs.Strings.{length-joined, length-pack}
-use Rattle.pke.proofs.Amounts.{fills, length-times}
-use Rattle.pke.proofs.Reading.{coefficient-drop, coefficient-first}
+use Rattle.vectors.proofs.Amounts.{fills, length-times}
+use Rattle.vectors.proofs.Reading.{coefficient-drop, coefficient-first}
 use Rattle.decryption.specs.Opened.{leftPoly, leftOver}
 
 -- ---- one polynomial

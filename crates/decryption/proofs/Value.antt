@@ -7,7 +7,7 @@ use native.Mathlib.Omega.{arith}
 use lib.IntN.{ℤ, pos, negℤ, _+ℤ_, _-ℤ_}
 use lib.ListN.{length}
 use lib.Pow.{pow-pos, pow-mono}
-use Rattle.hash.specs.Lists.{tabulate}
+use Rattle.keccak.specs.Lists.{tabulate}
 use Rattle.hash.specs.Shake.{shake, shakeFrom}
 use Rattle.hash.proofs.Laws.{length-shake, shake-split}
 use Rattle.bits.specs.Bits.{Below, pack, unpack, lowBits}
@@ -25,9 +25,9 @@ use Rattle.kindi.specs.Params.{WellFormed, modulus, width, lengthOf, secretsLen
 use Rattle.kindi.specs.Streams.{coefficient, smallIn, secret, keySecret}
 use Rattle.kindi.specs.Decrypt.{cipherPart, noisyValue, roundedBit, roundedCoins}
 use Rattle.kindi.proofs.Strings.{coefficient-append, coefficient-unpack, whole-bytes, place-below, shake-below}
-use Rattle.pke.specs.Vectors.{vector}
-use Rattle.pke.proofs.Amounts.{length-add}
-use Rattle.pke.proofs.Reading.{flat, vector-cong}
+use Rattle.vectors.specs.Vectors.{vector}
+use Rattle.vectors.proofs.Amounts.{length-add}
+use Rattle.vectors.proofs.Reading.{flat, vector-cong}
 use Rattle.decryption.specs.Opened.{valueBy, coinsFrom}
 
 -- ---- V

@@ -5,8 +5,8 @@ use mathlib.Core.List.{List}
 use Prim.Native.Nat.{ℕ, _+_, _≤_}
 use lib.IntN.{pos, _+ℤ_, _-ℤ_}
 use lib.ListN.{length, take, drop}
-use Rattle.hash.specs.Lists.{tabulate}
-use Rattle.hash.specs.Shake.{xorInto}
+use Rattle.keccak.specs.Lists.{tabulate}
+use Rattle.keccak.specs.Strings.{xorInto}
 use Rattle.bits.specs.Bits.{pack, lowBits}
 use Rattle.ring.specs.Integers.{residue}
 use Rattle.ring.specs.Poly.{Poly, plus, minus, dot, residues}

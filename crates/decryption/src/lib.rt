@@ -13,7 +13,7 @@ ghost use Rattle.kindi.specs.Decrypt.{roundedCoins};
 ghost use Rattle.decryption.specs.Opened.{OpenRoom, OpenExit, maskCipher};
 ghost use Rattle.decryption.specs.Inputs.{MakeRoom};
 use kindi::Params;
-use pke::lengths;
+use vectors::lengths;
 
 fn zeros() -> [u8; 3584] {
     [0; 3584]

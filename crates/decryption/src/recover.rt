@@ -8,8 +8,7 @@ ghost use Rattle.kindi.specs.Decrypt.{roundedBit, roundedCoins};
 ghost use Rattle.decryption.specs.Opened.{valueBy, coinsFrom};
 ghost use Rattle.decryption.specs.Inputs.{ValueRoom, CoinsRoom, RecoverRoom};
 use kindi::Params;
-use pke::lengths;
-use pke::vectors;
+use vectors::lengths;
 
 // V = D − sum of C_j·r_j modulo 2^16, in d; v is room for the sum.
 fn noisy_value(p: Params, ct: &[u8], r: &[u16], f: &mut [u16], d: &mut [u16], v: &mut [u16])
@@ -17,8 +16,8 @@ fn noisy_value(p: Params, ct: &[u8], r: &[u16], f: &mut [u16], d: &mut [u16], v:
     ensures { λ _. ⌜ now (d .exit) ≡ residues 65536 (p .n) (valueBy p (now (ct .entry)) (parts (p .n) (now (r .entry)))) ⌝ }
 {
     let at = lengths::length_of(p, p.l, p.k);
-    bits::unpack(p.k, ct, f);
-    bits::unpack(p.k, &ct[at..], d);
+    packing::unpack(p.k, ct, f);
+    packing::unpack(p.k, &ct[at..], d);
     ring::poly::negate(d, v);
     product::dot_add(v, f, r, p.l);
     ring::poly::negate(v, d);
@@ -60,7 +59,7 @@ fn coins_from(
     vectors::small(lengths::width(p), bytes, p.p, r);
     noisy_value(p, ct, r, f, d, v);
     round(d, p.k);
-    bits::pack(1, d, coins);
+    packing::pack(1, d, coins);
 }
 
 // The recovered coins of a secret seed and a ciphertext; only the secret vector is read of the stream of γ.

@@ -2,7 +2,7 @@
 ghost use mathlib.Core.Path.{_≡_};
 ghost use Prim.Native.Nat.{_+_, _*_};
 ghost use lib.ListN.{take, drop};
-ghost use Rattle.hash.specs.Shake.{xorInto};
+ghost use Rattle.keccak.specs.Strings.{xorInto};
 ghost use Rattle.bits.specs.Bits.{pack as Bits·pack, lowBits};
 ghost use Rattle.kindi.specs.Params.{width, matrixLength, lowLength, paddedLength};
 ghost use Rattle.kindi.specs.Keys.{joined};
@@ -10,8 +10,7 @@ ghost use Rattle.kindi.specs.Decrypt.{allBelow, errorsFit};
 ghost use Rattle.decryption.specs.Opened.{leftOver};
 ghost use Rattle.decryption.specs.Inputs.{RemainderRoom, RemaindersRoom, UnmaskRoom};
 use kindi::Params;
-use pke::lengths;
-use pke::vectors;
+use vectors::lengths;
 
 fn bytes() -> [u8; 1024] {
     [0; 1024]
@@ -22,10 +21,10 @@ fn remainder(p: Params, ct: &[u8], made: &[u8], mask: &[u8], u: &mut [u16], t: &
     requires { ⌜ RemainderRoom p (now ct) (now made) (now mask) (now u) (now t) ⌝ }
     ensures { λ _. ⌜ now (u .exit) ≡ leftOver p (now (ct .entry)) (now (made .entry)) (now (mask .entry)) 0 ⌝ }
 {
-    bits::unpack(p.k, ct, u);
-    bits::unpack(p.k, made, t);
+    packing::unpack(p.k, ct, u);
+    packing::unpack(p.k, made, t);
     ring::poly::subtract(u, t);
-    bits::unpack(lengths::width(p), mask, t);
+    packing::unpack(lengths::width(p), mask, t);
     ring::poly::add(u, t);
     bits::reduce(u, p.k);
 }
@@ -71,7 +70,7 @@ fn remainders(
     while j < count {
         remainder(p, &ct[at..], &made[at..], &mask[small_at..], u, t);
         fits = fits & all_below(u, bound);
-        bits::pack(w, u, &mut dst[small_at..small_at + small]);
+        packing::pack(w, u, &mut dst[small_at..small_at + small]);
         at += part;
         small_at += small;
         j += 1;
@@ -105,6 +104,6 @@ pub fn unmask(p: Params, ct: &[u8], made: &[u8], work: &mut [u8]) -> bool
         &mut t[..n],
         &mut packed[..padded],
     );
-    hash::strings::xor_into(&mut work[at..end], &packed[..padded]);
+    keccak::strings::xor_into(&mut work[at..end], &packed[..padded]);
     fits
 }

@@ -13,8 +13,8 @@ use Rattle.kindi.specs.Params.{isSet, ofSet, secretLength, ciphertextLength, pa
 use Rattle.kindi.specs.Answers.{differs, recoveredCoins, decrypt, decaps}
 use Rattle.kindi.specs.Calls.{inSet, decryptCall, decapsCall}
 use Rattle.kindi.proofs.Chains.{same-length}
-use Rattle.encryption_calls.proofs.Ends.{check-both, too-short}
-use Rattle.encryption_calls.proofs.Checked.{Checked, unchecked, check-first, then-check, then-next, zero-check}
+use Rattle.calls.proofs.Ends.{check-both, too-short}
+use Rattle.calls.proofs.Checked.{Checked, unchecked, check-first, then-check, then-next, zero-check}
 use Rattle.decryption_calls.specs.Status.{decryptStatus, decapsStatus}
 use Rattle.decryption_calls.specs.Fitting.{decryptFitting, decapsFitting}
 

@@ -8,8 +8,8 @@ use lib.ListN.{length}
 use Rattle.kindi.specs.declared.Params.{Params}
 use Rattle.kindi.specs.Params.{WellFormed, ofSet, decryptWork}
 use Rattle.kindi.specs.Calls.{workAfter, decryptCall, decapsCall}
-use Rattle.encryption_calls.proofs.Ends.{wiped-any}
-use Rattle.encryption_calls.proofs.Checked.{Checked, refused-number, refused-output, refused-returned}
+use Rattle.calls.proofs.Ends.{wiped-any}
+use Rattle.calls.proofs.Checked.{Checked, refused-number, refused-output, refused-returned}
 use Rattle.decryption_calls.specs.Status.{decryptStatus, decapsStatus}
 use Rattle.decryption_calls.specs.Fitting.{decryptFitting, decapsFitting, MessageRoom, MessageExit, KeyRoom, KeyExit}
 use Rattle.decryption_calls.specs.Exits.{DecryptExit, DecapsExit}

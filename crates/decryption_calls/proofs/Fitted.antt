@@ -9,8 +9,8 @@ use borrow.Author.Tests.{eqb-true, not-false}
 use lib.Dec.{eqb}
 use lib.ListN.{length, take, drop, length-take, length-drop}
 use lib.Seq.{length-take-le, take-take, take-at, drop-at}
-use Rattle.hash.specs.Shake.{xorInto}
-use Rattle.hash.proofs.Parts.{length-xorInto, patched}
+use Rattle.keccak.specs.Strings.{xorInto}
+use Rattle.keccak.proofs.Parts.{length-xorInto, patched}
 use Rattle.kindi.specs.declared.Params.{Params}
 use Rattle.kindi.specs.Params.{WellFormed, paddedLength, matrixLength, lowLength}
 use Rattle.kindi.specs.Keys.{publicPart, secretSeed}
@@ -23,8 +23,8 @@ use Rattle.kindi.proofs.Chains.{never, length-digest}
 use Rattle.kindi.proofs.Padding.{length-mask, marked-padded}
 use Rattle.decryption.specs.Opened.{opened, OpenExit}
 use Rattle.decryption.proofs.Fitting.{opened-fits}
-use Rattle.encryption_calls.proofs.Ends.{given}
-use Rattle.encryption_calls.proofs.Checked.{Checked, unchecked, check-before, check-first, zero-check, refused-number, answered-number, refused-output, refused-returned, given-returned}
+use Rattle.calls.proofs.Ends.{given}
+use Rattle.calls.proofs.Checked.{Checked, unchecked, check-before, check-first, zero-check, refused-number, answered-number, refused-output, refused-returned, given-returned}
 use Rattle.decryption_calls.specs.Fitting.{decryptFitting, decapsFitting, endingOf, allZero, MessageExit, KeyExit}
 use Rattle.decryption_calls.proofs.Endings.{same-padded}
 

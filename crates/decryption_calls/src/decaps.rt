@@ -6,12 +6,12 @@ ghost use Rattle.decryption_calls.specs.Fitting.{decapsFitting, KeyRoom,
 ghost use Rattle.decryption_calls.specs.Exits.{DecapsExit};
 use crate::decrypt;
 use crate::padding;
-use encryption_calls::checks;
-use encryption_calls::kem;
-use encryption_calls::sizes;
-use encryption_calls::work;
+use calls::checks;
+use calls::kem;
+use calls::sizes;
+use calls::work;
 use kindi::Params;
-use pke::lengths;
+use vectors::lengths;
 
 // The status, from the set and the lengths alone.
 fn status(set: u32, p: Params, sk: usize, ct: usize, key: usize, work: usize) -> u32

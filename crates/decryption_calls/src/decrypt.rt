@@ -5,11 +5,11 @@ ghost use Rattle.decryption_calls.specs.Status.{decryptStatus};
 ghost use Rattle.decryption_calls.specs.Fitting.{decryptFitting, MessageRoom, MessageExit};
 ghost use Rattle.decryption_calls.specs.Exits.{DecryptExit};
 use crate::padding;
-use encryption_calls::checks;
-use encryption_calls::sizes;
-use encryption_calls::work;
+use calls::checks;
+use calls::sizes;
+use calls::work;
 use kindi::Params;
-use pke::lengths;
+use vectors::lengths;
 
 // The status, from the set and the lengths alone.
 fn status(
@@ -64,7 +64,7 @@ fn open_message(
         *message_len = 0;
         return outcome;
     }
-    hash::strings::copy(coins, found);
+    keccak::strings::copy(coins, found);
     padding::write_message(&work[at..at + len], message);
     *message_len = len;
     0

@@ -6,7 +6,7 @@ ghost use lib.ListN.{length};
 ghost use Rattle.kindi.specs.Decrypt.{ending as Decrypt·ending};
 ghost use Rattle.kindi.specs.Calls.{messageOutput};
 ghost use Rattle.decryption_calls.specs.Fitting.{endingOf, allZero};
-use encryption_calls::work;
+use calls::work;
 
 // The last non-zero byte, 0 where there is none, and its place.
 pub struct Ended {
@@ -64,6 +64,6 @@ pub fn write_message(src: &[u8], dst: &mut [u8])
     ensures { λ _. ⌜ now (dst .exit) ≡ messageOutput (length (now (dst .entry))) (now (src .entry)) ⌝ }
 {
     let len = src.len();
-    hash::strings::copy(&mut dst[..len], src);
+    keccak::strings::copy(&mut dst[..len], src);
     work::wipe(&mut dst[len..]);
 }

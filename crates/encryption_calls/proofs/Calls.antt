@@ -16,7 +16,7 @@ use Rattle.kindi.specs.Answers.{Answer, answered, Keys, Shared, keygen, encrypt
 use Rattle.kindi.specs.Calls.{number, inSet, keygenCall, encryptCall, encapsCall}
 use Rattle.kindi.proofs.Chains.{same-length, both}
 use Rattle.kindi.proofs.Sets.{of-set-well}
-use Rattle.encryption_calls.proofs.Ends.{number-check, check-both, too-short, accepted}
+use Rattle.calls.proofs.Ends.{number-check, check-both, too-short, accepted}
 use Rattle.pke.specs.Inputs.{KeygenRoom, EncryptRoom}
 use Rattle.encryption_calls.specs.Status.{keygenStatus, encryptStatus, encapsStatus}
 

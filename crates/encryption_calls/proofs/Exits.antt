@@ -11,7 +11,7 @@ use Rattle.kindi.specs.Encrypt.{ciphertext}
 use Rattle.kindi.specs.Kem.{digest, sharedKey}
 use Rattle.kindi.specs.Answers.{Keys, Shared}
 use Rattle.kindi.specs.Calls.{number, workAfter, keygenCall, encryptCall, encapsCall}
-use Rattle.encryption_calls.proofs.Ends.{unchanged, given, wiped-any}
+use Rattle.calls.proofs.Ends.{unchanged, given, wiped-any}
 use Rattle.encryption_calls.proofs.Calls.{Done, encrypt-status, encrypt-done, encaps-status, encaps-done, keygen-status, keygen-done, keys, shared}
 use Rattle.pke.specs.Inputs.{KeygenRoom, EncryptRoom}
 use Rattle.encryption_calls.specs.Status.{keygenStatus, encryptStatus, encapsStatus}

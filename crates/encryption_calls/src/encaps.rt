@@ -3,12 +3,12 @@ ghost use mathlib.Core.Path.{_≡_};
 ghost use Rattle.kindi.specs.Params.{WellFormed};
 ghost use Rattle.encryption_calls.specs.Status.{encapsStatus};
 ghost use Rattle.encryption_calls.specs.Exits.{EncapsExit};
-use crate::checks;
-use crate::kem;
-use crate::sizes;
-use crate::work;
+use calls::checks;
+use calls::kem;
+use calls::sizes;
+use calls::work;
 use kindi::Params;
-use pke::lengths;
+use vectors::lengths;
 
 // The status, from the set and the lengths alone.
 fn status(set: u32, p: Params, pk: usize, coins: usize, key: usize, ct: usize, work: usize) -> u32

@@ -3,11 +3,11 @@ ghost use mathlib.Core.Path.{_≡_};
 ghost use Rattle.kindi.specs.Params.{WellFormed};
 ghost use Rattle.encryption_calls.specs.Status.{encryptStatus};
 ghost use Rattle.encryption_calls.specs.Exits.{EncryptExit};
-use crate::checks;
-use crate::sizes;
-use crate::work;
+use calls::checks;
+use calls::sizes;
+use calls::work;
 use kindi::Params;
-use pke::lengths;
+use vectors::lengths;
 
 // The status, from the set and the lengths alone.
 fn status(

@@ -3,9 +3,9 @@ ghost use mathlib.Core.Path.{_≡_};
 ghost use Rattle.kindi.specs.Params.{WellFormed};
 ghost use Rattle.encryption_calls.specs.Status.{keygenStatus};
 ghost use Rattle.encryption_calls.specs.Exits.{KeygenExit};
-use crate::checks;
-use crate::sizes;
-use crate::work;
+use calls::checks;
+use calls::sizes;
+use calls::work;
 use kindi::Params;
 
 // The status, from the set and the lengths alone.

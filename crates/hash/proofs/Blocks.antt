@@ -9,7 +9,8 @@ use native.Mathlib.Omega.{arith}
 use lib.ListN.{length, getD, take, drop, replicate, length-append, length-take, length-drop, take-append-drop, drop-of-length-le}
 use Rattle.hash.proofs.Padding.{length-lastBytes, padding-is, padding-mod}
 use Rattle.hash.proofs.Steps.{sponge, ready-full, ready-room, sound-fresh, absorbed-append, absorbed-ready, absorbed-part, rate-absorbed, place-absorbed, squeezed-ready, passed-room}
-use Rattle.hash.specs.Shake.{permute, xorInto, padding, absorbBlocks, absorbAll, permutes}
+use Rattle.keccak.specs.Strings.{permute, xorInto}
+use Rattle.hash.specs.Shake.{padding, absorbBlocks, absorbAll, permutes}
 use Rattle.hash.specs.Stream.{Sound, fresh, permuted, ready, absorbed, finished, nextByte, squeezed}
 use Rattle.hash.specs.declared.sponge.Sponge.{Sponge}
 

@@ -8,7 +8,8 @@ use lib.Bits.{bitXor}
 use lib.ListN.{length, getD, take, drop, set}
 use Rattle.hash.proofs.Padding.{lastBytes, length-lastBytes, padding-is, xor-ends-at}
 use Rattle.hash.proofs.Steps.{sponge, is-ready-as, absorbed-ready, absorbed-part}
-use Rattle.hash.specs.Shake.{xorInto, padding}
+use Rattle.keccak.specs.Strings.{xorInto}
+use Rattle.hash.specs.Shake.{padding}
 use Rattle.hash.specs.Stream.{Sound, ready, absorbed, finished}
 use Rattle.hash.specs.declared.sponge.Sponge.{Sponge}
 

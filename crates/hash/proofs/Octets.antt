@@ -4,8 +4,9 @@ use Prim.Native.Nat.{ℕ, zero, suc, _/_, _%_, _^_, _<_}
 use native.Mathlib.Nat.{mod-lt}
 use lib.ListN.{getD, take, drop, replicate}
 use lib.Pow.{pow-pos}
-use Rattle.hash.specs.Lists.{concatMap, digits}
-use Rattle.hash.specs.Shake.{rowString, fromState, permute, xorInto, absorbBlocks, permutes}
+use Rattle.keccak.specs.Lists.{concatMap, digits}
+use Rattle.keccak.specs.Strings.{rowString, fromState, permute, xorInto}
+use Rattle.hash.specs.Shake.{absorbBlocks, permutes}
 
 -- Every entry of the list is a byte.
 abbrev pub Bytes : List ℕ → Type 0

@@ -8,9 +8,10 @@ use lib.Arith.{digits-mod, digits-div}
 use lib.Bits.{bitXor, xor-block, xor-lt, xor-zero-r}
 use lib.ListN.{length, getD, take, drop, set, replicate, length-append, length-replicate}
 use lib.Pow.{pow-add, pow-pos, split}
-use Rattle.hash.proofs.Parts.{xorInto-nothing}
-use Rattle.hash.specs.Lists.{value, digits}
-use Rattle.hash.specs.Shake.{xorInto, pad101, bytesOf, padding}
+use Rattle.keccak.proofs.Parts.{xorInto-nothing}
+use Rattle.keccak.specs.Lists.{value, digits}
+use Rattle.keccak.specs.Strings.{xorInto}
+use Rattle.hash.specs.Shake.{pad101, bytesOf, padding}
 
 -- The last k + 1 bytes of a padded message: 1F, zeros, 80, or 9F where they are one.
 unfoldable pub lastBytes : ℕ → List ℕ

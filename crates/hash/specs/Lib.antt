@@ -1,6 +1,3 @@
--- What the contracts of `hash` say: FIPS 202's permutation, its sponge and the two SHAKEs.
-pub mod Lists
-pub mod Keccak
+-- What the contracts of `hash` say: FIPS 202's sponge and the two SHAKEs.
 pub mod Shake
 pub mod Stream
-pub mod Bounds

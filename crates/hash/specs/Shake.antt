@@ -1,37 +1,10 @@
--- SHAKE128 and SHAKE256 as FIPS 202, sections 3.1, 4, 5.1 and 6.2, define them, for messages and outputs of whole
--- bytes. A string is a list of bytes, and bit i of byte j is the standard's bit 8 j + i (section B.1). Rests on `Keccak`.
+-- SHAKE128 and SHAKE256 as FIPS 202, sections 4, 5.1 and 6.2, define them, for messages and outputs of whole bytes. A string is
+-- a list of bytes, and bit i of byte j is the standard's bit 8 j + i (section B.1). Rests on `Strings` of `keccak`.
 use mathlib.Core.List.{List, [], _∷_, _++_}
 use Prim.Native.Nat.{ℕ, zero, suc, _+_, _-_, _*_, _/_, _%_}
-use lib.Bits.{bitXor}
 use lib.ListN.{length, getD, take, drop, replicate}
-use Rattle.hash.specs.Lists.{tabulate, concatMap, value, digits}
-use Rattle.hash.specs.Keccak.{state, keccakF}
-
--- The lane of a string's eight bytes from i on, the low byte first.
-abbrev pub laneAt : List ℕ → ℕ → ℕ
-laneAt s i = value 8 (take 8 (drop i s))
-
--- Section 3.1.2: the state of a string, whose lane (x, y) has the bits from 64 (5 y + x) on.
-unfoldable pub toState : List ℕ → List (List ℕ)
-toState s = state (λ x y. laneAt s (8 * (5 * y + x)))
-
--- Section 3.1.3: the string of a row, lane after lane.
-unfoldable pub rowString : List ℕ → List ℕ
-rowString p = concatMap (digits 8 8) p
-
--- Section 3.1.3: the string of a state, row after row.
-unfoldable pub fromState : List (List ℕ) → List ℕ
-fromState a = concatMap rowString a
-
--- Keccak-f[1600] on strings of 200 bytes.
-unfoldable pub permute : List ℕ → List ℕ
-permute s = fromState (keccakF (toState s))
-
--- The string s with p added to its first bytes, modulo 2: S ⊕ (P ‖ 0…0).
-unfoldable pub xorInto : List ℕ → List ℕ → List ℕ
-xorInto [] p = []
-xorInto (s ∷ ss) [] = s ∷ ss
-xorInto (s ∷ ss) (b ∷ bs) = bitXor s b ∷ xorInto ss bs
+use Rattle.keccak.specs.Lists.{tabulate, value, digits}
+use Rattle.keccak.specs.Strings.{permute, xorInto}
 
 -- Algorithm 9: the bits of pad10*1(x, m), where j is (− m − 2) mod x.
 unfoldable pub pad101 : ℕ → ℕ → List ℕ

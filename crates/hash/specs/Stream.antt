@@ -7,7 +7,8 @@ use Prim.Native.Nat.{ℕ, zero, suc, _+_, _≤_, _<_}
 use lib.Bits.{bitXor}
 use lib.Dec.{eqb}
 use lib.ListN.{length, getD, set, replicate}
-use Rattle.hash.specs.Shake.{permute, padding}
+use Rattle.keccak.specs.Strings.{permute}
+use Rattle.hash.specs.Shake.{padding}
 use Rattle.hash.specs.declared.sponge.Sponge.{Sponge}
 
 -- What every sponge has: a rate within the string, and a place within the block.

@@ -1,7 +1,5 @@
 // SHAKE128 and SHAKE256 (FIPS 202), for inputs and outputs of every length.
-mod keccak;
 pub mod sponge;
-pub mod strings;
 
 ghost use mathlib.Core.Path.{_≡_};
 ghost use Prim.Native.Nat.{_≤_, _<_};

@@ -4,11 +4,8 @@ ghost use mathlib.Core.Path.{_≡_};
 ghost use Prim.Native.Nat.{_+_, _≤_, _<_, min};
 ghost use lib.ListN.{length};
 ghost use Rattle.hash.specs.Stream.{Sound, Squeezed, fresh, permuted, ready as Stream·ready, absorbed, finished};
-use crate::keccak::keccak_f;
-use crate::strings::copy;
-use crate::strings::from_state;
-use crate::strings::to_state;
-use crate::strings::xor_into;
+use keccak::strings::copy;
+use keccak::strings::xor_into;
 
 // The string of 200 bytes, the place in its block, and the block's length. Where the place is the
 // block's end, a permutation is due before the next byte.
@@ -41,7 +38,7 @@ impl Sponge {
         ensures { λ r. ⌜ r ≡ permuted self ⌝ }
     {
         let bytes = self.bytes;
-        let next = from_state(keccak_f(to_state(&bytes)));
+        let next = keccak::permute(bytes);
         Self {
             bytes: next,
             at: 0,

@@ -1,9 +1,9 @@
--- Hexadecimal: each byte as two digits in ASCII, the high one first, `a` to `f` in lower case. Rests on hash's concatMap.
+-- Hexadecimal: each byte as two digits in ASCII, the high one first, `a` to `f` in lower case. Rests on keccak's concatMap.
 use mathlib.Core.Bool.{cond}
 use mathlib.Core.List.{List, [], _∷_}
 use Prim.Native.Nat.{ℕ, _+_, _/_, _%_}
 use lib.Dec.{ltb}
-use Rattle.hash.specs.Lists.{concatMap}
+use Rattle.keccak.specs.Lists.{concatMap}
 
 -- The digit of a number below 16: from 48 on stand `0` to `9`, from 97 on `a` to `f`.
 abbrev pub digit : ℕ → ℕ

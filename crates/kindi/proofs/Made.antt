@@ -9,8 +9,8 @@ use lib.IntN.{pos}
 use lib.ListN.{length, getD, take, length-append}
 use lib.Pow.{pow-pos, shr-lt}
 use lib.Seq.{take-at, drop-at}
-use Rattle.hash.specs.Lists.{tabulate}
-use Rattle.hash.proofs.Entries.{tabulate-at, length-tabulate}
+use Rattle.keccak.specs.Lists.{tabulate}
+use Rattle.keccak.proofs.Entries.{tabulate-at, length-tabulate}
 use Rattle.bits.specs.Bits.{Below, pack}
 use Rattle.ring.specs.Integers.{Cong, residue}
 use Rattle.ring.specs.Poly.{Poly, plus, residues}

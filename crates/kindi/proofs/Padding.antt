@@ -12,10 +12,10 @@ use lib.Dec.{eqb, ltb}
 use lib.ListN.{length, take, drop, replicate, length-append, length-replicate, length-take, length-drop}
 use lib.Pow.{pow-pos}
 use lib.Seq.{getD-take, getD-drop}
-use Rattle.hash.specs.Shake.{xorInto}
+use Rattle.keccak.specs.Strings.{xorInto}
 use Rattle.hash.proofs.Laws.{length-shake}
 use Rattle.hash.proofs.Octets.{bytes-zeros}
-use Rattle.hash.proofs.Parts.{length-xorInto}
+use Rattle.keccak.proofs.Parts.{length-xorInto}
 use Rattle.bits.specs.Bits.{Below}
 use Rattle.kindi.specs.declared.Params.{Params}
 use Rattle.kindi.specs.Params.{paddedLength, lowLength, coinsStreamLength}

@@ -9,8 +9,8 @@ use native.Mathlib.Omega.{arith}
 use lib.IntN.{ℤ, pos, _+ℤ_, _-ℤ_, +ℤ-comm, +ℤ-negℤ-cancel, -ℤ-+ℤ-cancel}
 use lib.ListN.{length, getD}
 use lib.Pow.{pow-pos, pow-mono}
-use Rattle.hash.specs.Shake.{xorInto}
-use Rattle.hash.proofs.Parts.{length-xorInto}
+use Rattle.keccak.specs.Strings.{xorInto}
+use Rattle.keccak.proofs.Parts.{length-xorInto}
 use Rattle.bits.specs.Bits.{Below, pack, unpack}
 use Rattle.ring.specs.Integers.{Cong, residue, centred}
 use Rattle.bits.proofs.Digits.{unpack-below, unpack-pack, pack-unpack}

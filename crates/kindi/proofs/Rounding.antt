@@ -11,8 +11,8 @@ use lib.Arith.{digits-div, digits-lt, mod-mul}
 use lib.IntN.{ℤ, pos, negsuc, negℤ, natAbs, _+ℤ_, _-ℤ_, _*ℤ_, +ℤ-comm, +ℤ-assoc}
 use lib.ListN.{length, getD, drop}
 use lib.Pow.{pow-pos}
-use Rattle.hash.specs.Lists.{tabulate}
-use Rattle.hash.proofs.Entries.{tabulate-at}
+use Rattle.keccak.specs.Lists.{tabulate}
+use Rattle.keccak.proofs.Entries.{tabulate-at}
 use Rattle.bits.specs.Bits.{Below, pack, unpack}
 use Rattle.ring.specs.Integers.{Cong, residue, largest, allBetween}
 use Rattle.bits.proofs.Digits.{pack-unpack, length-unpack}

@@ -6,7 +6,7 @@ use Prim.Native.Nat.{ℕ, _<_}
 use native.Mathlib.Omega.{arith}
 use lib.ListN.{length}
 use lib.Seq.{length-take-le}
-use Rattle.hash.proofs.Entries.{length-tabulate}
+use Rattle.keccak.proofs.Entries.{length-tabulate}
 use Rattle.bits.specs.Bits.{Below}
 use Rattle.kindi.specs.declared.Params.{Params}
 use Rattle.kindi.specs.Both.{Iff}

@@ -9,11 +9,11 @@ use native.Mathlib.Omega.{arith}
 use lib.ListN.{length, getD, length-append, List·getD-append, List·getD-eq-default}
 use lib.Seq.{getD-append-add, ext-getD}
 use lib.Pow.{pow-pos}
-use Rattle.hash.specs.Lists.{tabulate, value, digits}
+use Rattle.keccak.specs.Lists.{tabulate, value, digits}
 use Rattle.hash.specs.Shake.{shake}
-use Rattle.hash.proofs.Entries.{tabulate-at, length-tabulate}
+use Rattle.keccak.proofs.Entries.{tabulate-at, length-tabulate}
 use Rattle.hash.proofs.Laws.{length-shake, shake-at, shakeByte-below}
-use Rattle.hash.proofs.Parts.{length-digits}
+use Rattle.keccak.proofs.Parts.{length-digits}
 use Rattle.bits.specs.Bits.{Below, bytesFor, pack, unpack}
 use Rattle.bits.proofs.Digits.{digits-at, digits-low, digits-tabulate, value-append, value-below, first-digit, length-unpack, unpack-pack}
 use Rattle.ring.proofs.Ring.{sides}

@@ -4,8 +4,8 @@ use mathlib.Core.List.{List, [], _∷_}
 use Prim.Native.Nat.{ℕ, _+_, _/_, _%_, _*_}
 use lib.Dec.{eqb, ltb}
 use lib.IntN.{pos, _+ℤ_, _-ℤ_}
-use Rattle.hash.specs.Lists.{tabulate}
-use Rattle.hash.specs.Shake.{xorInto}
+use Rattle.keccak.specs.Lists.{tabulate}
+use Rattle.keccak.specs.Strings.{xorInto}
 use Rattle.bits.specs.Bits.{pack}
 use Rattle.ring.specs.Integers.{residue}
 use Rattle.ring.specs.Poly.{Poly, minus, dot, residues}

@@ -5,7 +5,7 @@ use Prim.Native.Nat.{ℕ, _+_, _-_, _*_, _^_}
 use lib.Dec.{eqb, ltb}
 use lib.IntN.{pos, _+ℤ_, _*ℤ_}
 use lib.ListN.{length, replicate}
-use Rattle.hash.specs.Shake.{xorInto}
+use Rattle.keccak.specs.Strings.{xorInto}
 use Rattle.bits.specs.Bits.{pack}
 use Rattle.ring.specs.Poly.{Poly, plus, dot, transposed, unit, residues}
 use Rattle.kindi.specs.declared.Params.{Params}

@@ -3,7 +3,7 @@ use mathlib.Core.Bool.{Bool}
 use mathlib.Core.List.{List}
 use Prim.Native.Nat.{ℕ, _/_, _%_, _^_}
 use lib.IntN.{ℤ, pos, negℤ, _+ℤ_, _-ℤ_}
-use Rattle.hash.specs.Lists.{tabulate}
+use Rattle.keccak.specs.Lists.{tabulate}
 use Rattle.ring.specs.Integers.{residue, allBetween}
 use Rattle.ring.specs.Poly.{Poly, plus, minus, dot}
 use Rattle.kindi.specs.declared.Params.{Params}

@@ -4,7 +4,7 @@ use mathlib.Core.List.{List}
 use Prim.Native.Nat.{ℕ, zero, suc, _+_, _-_, _*_, _/_, _%_, _^_}
 use lib.IntN.{pos}
 use lib.ListN.{take, drop}
-use Rattle.hash.specs.Lists.{value}
+use Rattle.keccak.specs.Lists.{value}
 use Rattle.hash.specs.Shake.{shake}
 use Rattle.ring.specs.Integers.{centred}
 use Rattle.ring.specs.Poly.{Poly}

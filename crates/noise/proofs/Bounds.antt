@@ -8,7 +8,7 @@ use lib.IntN.{pos, negℤ, natAbs, _+ℤ_, _-ℤ_, +ℤ-idl}
 use lib.Pow.{pow-pos, pow-mono, pow-add}
 use mir.Syntax.{w16, w32}
 use mir.Val.{SFits}
-use Rattle.hash.specs.Lists.{tabulate}
+use Rattle.keccak.specs.Lists.{tabulate}
 use Rattle.bits.specs.Bits.{Below}
 use Rattle.ring.specs.Integers.{centred}
 use Rattle.ring.proofs.Integers.{natAbs-add, natAbs-neg}

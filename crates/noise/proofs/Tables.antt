@@ -6,8 +6,8 @@ use native.Mathlib.Nat.{not-suc-le-zero, le-of-suc-le-suc}
 use native.Mathlib.Omega.{arith}
 use lib.IntN.{pos, _+ℤ_, _-ℤ_}
 use lib.ListN.{length, getD, take, replicate, length-take}
-use Rattle.hash.specs.Lists.{tabulate}
-use Rattle.hash.proofs.Entries.{tabulate-at, length-tabulate}
+use Rattle.keccak.specs.Lists.{tabulate}
+use Rattle.keccak.proofs.Entries.{tabulate-at, length-tabulate}
 use Rattle.bits.specs.Bits.{lowBits}
 use Rattle.bits.proofs.Filling.{tabulate-ext, map-tabulate}
 use Rattle.ring.specs.Integers.{centred, residue}
@@ -15,7 +15,7 @@ use Rattle.ring.specs.Poly.{residues}
 use Rattle.ring.specs.Coefficients.{added, centredIntegers}
 use Rattle.ring.proofs.Modular.{residue-small}
 use Rattle.kindi.specs.declared.Params.{Params}
-use Rattle.pke.specs.Vectors.{raised}
+use Rattle.vectors.specs.Vectors.{raised}
 use Rattle.noise.specs.Terms.{combined}
 
 -- Centred values.

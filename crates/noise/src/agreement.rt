@@ -6,7 +6,6 @@ ghost use Rattle.kindi.specs.Answers.{same};
 ghost use Rattle.noise.specs.Rooms.{AgreementRoom};
 ghost use Rattle.noise.specs.Terms.{droppedBits};
 use kindi::Params;
-use pke::vectors;
 
 // Whether two strings of one length are the same; every byte is read.
 fn same_bytes(a: &[u8], b: &[u8]) -> bool
@@ -31,9 +30,9 @@ fn drop_bits(p: Params, b: &[u8], values: &mut [u16], dst: &mut [u8])
     requires { ⌜ (AgreementRoom p (now b) (now dst)) × (length (now values) ≡ p .l * p .n) ⌝ }
     ensures { λ _. ⌜ now (dst .exit) ≡ droppedBits p (now (b .entry)) ⌝ }
 {
-    bits::unpack(p.k, b, values);
+    packing::unpack(p.k, b, values);
     vectors::compress(values, p.t);
-    bits::pack(p.k - p.t, values, dst);
+    packing::pack(p.k - p.t, values, dst);
 }
 
 // Whether b without its low t bits is what is stored.

@@ -3,16 +3,14 @@ ghost use mathlib.Core.Path.{_≡_};
 ghost use Prim.Native.Nat.{_<_};
 ghost use lib.IntN.{pos, _+ℤ_, _-ℤ_};
 ghost use lib.ListN.{length};
-ghost use Rattle.hash.specs.Lists.{tabulate};
+ghost use Rattle.keccak.specs.Lists.{tabulate};
 ghost use Rattle.ring.specs.Integers.{centred};
 ghost use Rattle.kindi.specs.Params.{width};
 ghost use Rattle.kindi.specs.Streams.{coefficient, smallIn, firstIn, ephemeralBy};
 ghost use Rattle.noise.specs.Rooms.{StringRoom, FirstRoom, EphemeralRoom, KeyNoiseRoom, CombineRoom};
 ghost use Rattle.noise.specs.Terms.{keyNoiseIn, combined};
 use kindi::Params;
-use pke::lengths;
-use pke::vectors;
-use ring::signed;
+use vectors::lengths;
 
 fn words() -> [u16; 512] {
     [0; 512]
@@ -24,7 +22,7 @@ fn values(p: Params, w: u32, bytes: &[u8], m: usize, dst: &mut [u16])
     ensures { λ _. ⌜ now (dst .exit) ≡ tabulate (p .n) (coefficient w (p .n) (now (bytes .entry)) m) ⌝ }
 {
     let at = lengths::length_of(p, m, w);
-    bits::unpack(w, &bytes[at..], dst);
+    packing::unpack(w, &bytes[at..], dst);
 }
 
 // Small polynomial m of a string.

@@ -5,7 +5,7 @@ ghost use Rattle.kindi.specs.Params.{WellFormed, lowLength, paddedLength, coins
 ghost use Rattle.kindi.specs.Streams.{coinsStream};
 ghost use Rattle.kindi.specs.Encrypt.{masked};
 ghost use Rattle.kindi.specs.Answers.{agrees, clearUnder, largestUnder};
-ghost use Rattle.hash.proofs.Parts.{patched};
+ghost use Rattle.keccak.proofs.Parts.{patched};
 ghost use Prim.Native.Nat.{_<_, _≤_};
 ghost use lib.ListN.{length};
 ghost use Rattle.noise.specs.Rooms.{valueOf, Kept, ValueRoom, MeasureRoom};
@@ -17,7 +17,7 @@ mod sums;
 use kindi::Params;
 use pke::encrypt::add_padded;
 use pke::keygen::public_polynomials;
-use pke::lengths;
+use vectors::lengths;
 
 // Whether a pair is clear, and the largest absolute value of its noise.
 pub struct Measured {

@@ -3,7 +3,7 @@ ghost use mathlib.Core.Path.{_≡_};
 ghost use Prim.Native.Nat.{_+_, _/_, _^_, _<_};
 ghost use lib.IntN.{pos, natAbs, _-ℤ_};
 ghost use lib.ListN.{length, replicate};
-ghost use Rattle.hash.specs.Lists.{tabulate};
+ghost use Rattle.keccak.specs.Lists.{tabulate};
 ghost use Rattle.ring.specs.Integers.{largest};
 ghost use Rattle.ring.specs.Poly.{plus, minus, dot, ofInts};
 ghost use Rattle.kindi.specs.Params.{WellFormed, modulus};
@@ -14,10 +14,8 @@ ghost use Rattle.noise.specs.Terms.{keyNoiseIn, noiseIn, noisesFrom};
 use crate::Measured;
 use crate::factors;
 use kindi::Params;
-use pke::lengths;
-use pke::vectors;
-use ring::signed;
 use signed_product;
+use vectors::lengths;
 
 fn factor() -> [i16; 512] {
     [0; 512]

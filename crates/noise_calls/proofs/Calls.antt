@@ -12,8 +12,8 @@ use Rattle.kindi.specs.Params.{isSet, ofSet, secretLength, paddedLength, noiseW
 use Rattle.kindi.specs.Answers.{noiseOf, choose, isList, coinsCount}
 use Rattle.kindi.specs.Calls.{inSet, noiseCall, chooseCall}
 use Rattle.kindi.proofs.Chains.{same-length}
-use Rattle.encryption_calls.proofs.Ends.{too-short}
-use Rattle.encryption_calls.proofs.Checked.{Checked, unchecked, check-first, zero-check}
+use Rattle.calls.proofs.Ends.{too-short}
+use Rattle.calls.proofs.Checked.{Checked, unchecked, check-first, zero-check}
 use Rattle.noise_calls.specs.Status.{noiseStatus, chooseStatus, wholeCoins}
 use Rattle.noise_calls.specs.Fitting.{noiseFitting, chooseFitting}
 

@@ -7,8 +7,8 @@ use lib.ListN.{length}
 use Rattle.kindi.specs.declared.Params.{Params}
 use Rattle.kindi.specs.Params.{WellFormed, ofSet, lengthOf, noiseWork}
 use Rattle.kindi.specs.Calls.{workAfter, noiseCall, chooseCall}
-use Rattle.encryption_calls.proofs.Ends.{wiped-any}
-use Rattle.encryption_calls.proofs.Checked.{Checked, refused-number, refused-returned}
+use Rattle.calls.proofs.Ends.{wiped-any}
+use Rattle.calls.proofs.Checked.{Checked, refused-number, refused-returned}
 use Rattle.noise_calls.specs.Status.{noiseStatus, chooseStatus}
 use Rattle.noise_calls.specs.Fitting.{noiseFitting, chooseFitting, NoiseRoom, SizeExit, ChooseRoom, PlaceExit}
 use Rattle.noise_calls.specs.Exits.{NoiseExit, ChooseExit}

@@ -8,13 +8,13 @@ use native.Mathlib.Omega.{arith}
 use borrow.Author.Tests.{leb-true}
 use lib.Dec.{eqb, leb}
 use lib.ListN.{length, take, drop}
-use Rattle.hash.specs.Lists.{tabulate}
-use Rattle.hash.proofs.Entries.{tabulate-at, tabulate-add}
+use Rattle.keccak.specs.Lists.{tabulate}
+use Rattle.keccak.proofs.Entries.{tabulate-at, tabulate-add}
 use Rattle.kindi.specs.declared.Params.{Params}
 use Rattle.kindi.specs.Params.{WellFormed, lengthOf}
 use Rattle.kindi.specs.Answers.{some, coinsAt, coinsCount, clearPlaces, clearUnder}
 use Rattle.kindi.proofs.Chains.{never, both}
-use Rattle.pke.proofs.Amounts.{part-length}
+use Rattle.vectors.proofs.Amounts.{part-length}
 use Rattle.noise.specs.Rooms.{MeasureRoom, Kept}
 use Rattle.noise_calls.specs.Fitting.{Search, SearchRoom}
 

@@ -8,11 +8,11 @@ ghost use Rattle.noise_calls.specs.Status.{wholeCoins, chooseStatus};
 ghost use Rattle.noise_calls.specs.Fitting.{chooseFitting, ChooseRoom, PlaceExit, SearchRoom, Search};
 ghost use Rattle.noise_calls.specs.Exits.{ChooseExit};
 use crate::measure;
-use encryption_calls::checks;
-use encryption_calls::sizes;
-use encryption_calls::work;
+use calls::checks;
+use calls::sizes;
+use calls::work;
 use kindi::Params;
-use pke::lengths;
+use vectors::lengths;
 
 // Whether a list of this length has 1 to 8 whole coins.
 fn whole_coins(coins: usize, long: usize) -> bool

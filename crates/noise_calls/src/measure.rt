@@ -5,11 +5,11 @@ ghost use Rattle.kindi.specs.Params.{WellFormed};
 ghost use Rattle.noise_calls.specs.Status.{noiseStatus};
 ghost use Rattle.noise_calls.specs.Fitting.{noiseFitting, NoiseRoom, SizeExit};
 ghost use Rattle.noise_calls.specs.Exits.{NoiseExit};
-use encryption_calls::checks;
-use encryption_calls::sizes;
-use encryption_calls::work;
+use calls::checks;
+use calls::sizes;
+use calls::work;
 use kindi::Params;
-use pke::lengths;
+use vectors::lengths;
 
 // The status, from the set and the lengths alone.
 fn status(set: u32, p: Params, sk: usize, coins: usize, message: usize, work: usize) -> u32

@@ -12,7 +12,7 @@ use lib.Pow.{pow-pos}
 use lib.Seq.{take-at, drop-at, drop-drop}
 use Rattle.hash.specs.Shake.{shake}
 use Rattle.hash.proofs.Laws.{length-shake}
-use Rattle.hash.proofs.Parts.{patched, take-rest}
+use Rattle.keccak.proofs.Parts.{patched, take-rest}
 use Rattle.bits.specs.Bits.{Below, pack}
 use Rattle.ring.specs.Integers.{centred}
 use Rattle.ring.specs.Poly.{Poly, plus, dot, transposed, unit, parts, residues}
@@ -26,9 +26,9 @@ use Rattle.kindi.specs.Keys.{joined, stored, matrixSeed}
 use Rattle.kindi.specs.Encrypt.{factorBy, factor, decompressedBy, noiseless, error, masked, ciphertext}
 use Rattle.kindi.proofs.Strings.{coefficient-append, whole-bytes, place-below, shake-below}
 use Rattle.kindi.proofs.Padding.{length-masked, part-below}
-use Rattle.pke.specs.Vectors.{vector}
+use Rattle.vectors.specs.Vectors.{vector}
 use Rattle.pke.specs.Layout.{cipherFrom}
-use Rattle.pke.proofs.Reading.{vector-cong}
+use Rattle.vectors.proofs.Reading.{vector-cong}
 use Rattle.pke.proofs.Joining.{pack-joined}
 use Rattle.pke.proofs.Masks.{drop-past}
 

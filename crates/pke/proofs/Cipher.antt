@@ -5,7 +5,7 @@ use Prim.Native.Nat.{ℕ, _+_, _-_, _<_}
 use native.Mathlib.Nat.{add-zero}
 use lib.IntN.{_+ℤ_}
 use lib.ListN.{length, take, drop}
-use Rattle.hash.proofs.Parts.{take-rest}
+use Rattle.keccak.proofs.Parts.{take-rest}
 use Rattle.bits.specs.Bits.{Below, pack, lowBits}
 use Rattle.ring.specs.Integers.{Cong, centred}
 use Rattle.ring.specs.Poly.{Poly, plus, dot, parts, residues}
@@ -15,10 +15,10 @@ use Rattle.kindi.specs.Params.{WellFormed, modulus, width, lengthOf}
 use Rattle.kindi.specs.Streams.{coefficient, smallIn}
 use Rattle.kindi.specs.Keys.{joined}
 use Rattle.kindi.proofs.Strings.{length-joined, length-pack}
-use Rattle.pke.specs.Vectors.{vector, sumPart}
-use Rattle.pke.proofs.Amounts.{fills, length-times}
-use Rattle.pke.proofs.Reading.{coefficient-drop, vector-cong}
-use Rattle.pke.proofs.Sums.{sum-low}
+use Rattle.vectors.specs.Vectors.{vector, sumPart}
+use Rattle.vectors.proofs.Amounts.{fills, length-times}
+use Rattle.vectors.proofs.Reading.{coefficient-drop, vector-cong}
+use Rattle.vectors.proofs.Sums.{sum-low}
 
 -- Polynomial j modulo q, where F meets s in it, and e are the errors.
 abbrev pub reduced : Params → (ℕ → ℕ → Poly) → (ℕ → Poly) → (ℕ → Poly) → ℕ → List ℕ

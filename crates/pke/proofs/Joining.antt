@@ -8,15 +8,15 @@ use native.Mathlib.Omega.{arith}
 use lib.ListN.{length, take, drop, length-take, length-drop, length-append, drop-of-length-le}
 use lib.Seq.{take-at, drop-at, drop-drop}
 use lib.Pow.{pow-pos}
-use Rattle.hash.specs.Lists.{value, digits}
+use Rattle.keccak.specs.Lists.{value, digits}
 use Rattle.hash.specs.Shake.{shake}
 use Rattle.hash.proofs.Laws.{length-shake}
-use Rattle.hash.proofs.Parts.{patched, length-patched, take-patched, patched-rest, take-rest}
+use Rattle.keccak.proofs.Parts.{patched, length-patched, take-patched, patched-rest, take-rest}
 use Rattle.bits.specs.Bits.{Below, pack}
 use Rattle.bits.proofs.Digits.{pack-append}
 use Rattle.kindi.specs.Keys.{joined}
 use Rattle.kindi.proofs.Strings.{length-joined, joined-below}
-use Rattle.pke.proofs.Amounts.{part-length}
+use Rattle.vectors.proofs.Amounts.{part-length}
 
 -- ---- parts of slices
 

@@ -1,7 +1,4 @@
 -- The laws that the proofs of `pke` share.
-pub mod Amounts
-pub mod Reading
-pub mod Sums
 pub mod Joining
 pub mod Masks
 pub mod Terms

@@ -10,7 +10,7 @@ use lib.ListN.{length, take, drop, length-map, length-take, length-append}
 use lib.Seq.{take-at, drop-at}
 use lib.Pow.{pow-pos, shr-lt}
 use Rattle.hash.specs.Shake.{shake}
-use Rattle.hash.proofs.Parts.{patched, patched-rest, take-rest}
+use Rattle.keccak.proofs.Parts.{patched, patched-rest, take-rest}
 use Rattle.hash.proofs.Laws.{length-shake}
 use Rattle.bits.specs.Bits.{Below, pack, unpack, lowBits}
 use Rattle.ring.specs.Integers.{Cong, centred}
@@ -24,11 +24,11 @@ use Rattle.kindi.specs.Params.{WellFormed, modulus, width, lengthOf, matrixLeng
 use Rattle.kindi.specs.Streams.{coefficient, matrixIn, smallIn, matrix, keySecret}
 use Rattle.kindi.specs.Keys.{compress, joined, publicBy, public, publicKey, secretKey}
 use Rattle.kindi.proofs.Strings.{length-joined, length-pack, whole-bytes}
-use Rattle.pke.specs.Vectors.{vector, sumPart}
+use Rattle.vectors.specs.Vectors.{vector, sumPart}
 use Rattle.pke.specs.Layout.{storedFrom}
-use Rattle.pke.proofs.Amounts.{length-add, length-le, fills}
-use Rattle.pke.proofs.Reading.{small-vector, plain-vector, vector-cong, coefficient-drop}
-use Rattle.pke.proofs.Sums.{sum-low}
+use Rattle.vectors.proofs.Amounts.{length-add, length-le, fills}
+use Rattle.vectors.proofs.Reading.{small-vector, plain-vector, vector-cong, coefficient-drop}
+use Rattle.vectors.proofs.Sums.{sum-low}
 use Rattle.pke.proofs.Joining.{pack-joined, two-streams, then-rest, then-next}
 
 -- ---- compressed values

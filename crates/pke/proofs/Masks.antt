@@ -7,8 +7,9 @@ use native.Mathlib.Omega.{arith}
 use lib.Bits.{bitXor, xor-zero-r}
 use lib.ListN.{length, getD, take, drop, set, replicate, length-append, length-take, length-drop}
 use lib.Seq.{take-at, take-append-add, drop-append-add}
-use Rattle.hash.specs.Shake.{shake, xorInto}
-use Rattle.hash.proofs.Parts.{patched, patched-rest, xorInto-nothing}
+use Rattle.keccak.specs.Strings.{xorInto}
+use Rattle.hash.specs.Shake.{shake}
+use Rattle.keccak.proofs.Parts.{patched, patched-rest, xorInto-nothing}
 use Rattle.kindi.specs.declared.Params.{Params}
 use Rattle.kindi.specs.Params.{matrixLength, lowLength, paddedLength, coinsStreamLength, encryptWork}
 use Rattle.kindi.specs.Streams.{coinsStream, mask}

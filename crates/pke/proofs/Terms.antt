@@ -20,8 +20,8 @@ use Rattle.kindi.specs.Params.{WellFormed, half, highWidth}
 use Rattle.kindi.specs.Streams.{coefficient, firstIn, lowIn}
 use Rattle.kindi.specs.Keys.{stored}
 use Rattle.kindi.specs.Encrypt.{decompressedBy, factorBy}
-use Rattle.pke.specs.Vectors.{vector, raised, withConstant}
-use Rattle.pke.proofs.Reading.{flat, coefficient-first, coefficient-on}
+use Rattle.vectors.specs.Vectors.{vector, raised, withConstant}
+use Rattle.vectors.proofs.Reading.{flat, coefficient-first, coefficient-on}
 
 -- An entry of a list that has been multiplied.
 raised-cong : (n t : ℕ) (xs : List ℕ) (x : ℕ) → length xs ≡ n → x < n → Cong 65536 (ofNats (raised t xs) x) (pos (2 ^ t * getD xs x 0))

@@ -4,15 +4,7 @@ use mathlib.Core.List.{List}
 use Prim.Native.Nat.{ℕ, _-_, _*_, _≤_, _<_}
 use lib.ListN.{length}
 use Rattle.kindi.specs.declared.Params.{Params}
-use Rattle.kindi.specs.Params.{WellFormed, width, highWidth, lengthOf, storedLength, publicLength, secretLength, ciphertextLength, paddedLength, matrixLength, lowLength, highLength, secretsLength, restLength, keygenWork, encryptWork}
-
--- A string that begins with a polynomial of errors, two vectors, and a sum of n coefficients.
-pub record Rows (P : Params) (errors f s acc : List ℕ) : Type 0 where
-  pub well : WellFormed P
-  pub errors-there : lengthOf P 1 (width P) ≤ length errors
-  pub first : length f ≡ P .l * P .n
-  pub second : length s ≡ P .l * P .n
-  pub sum : length acc ≡ P .n
+use Rattle.kindi.specs.Params.{WellFormed, lengthOf, storedLength, publicLength, secretLength, ciphertextLength, paddedLength, matrixLength, lowLength, highLength, secretsLength, restLength, keygenWork, encryptWork}
 
 -- The streams of a key, its secret vector r, room for a vector and a sum, and the polynomials of b without their low t bits.
 pub record PublicRoom (P : Params) (t : ℕ) (rows secrets r f acc dst : List ℕ) : Type 0 where

@@ -1,4 +1,3 @@
 -- What the contracts of `pke` say.
-pub mod Vectors
 pub mod Layout
 pub mod Inputs

@@ -3,20 +3,20 @@ ghost use mathlib.Core.Path.{_≡_};
 ghost use mathlib.Core.List.{[], _∷_, _++_};
 ghost use Prim.Native.Nat.{_+_, _-_, _*_, _≤_, _<_};
 ghost use lib.ListN.{length, take, drop};
-ghost use Rattle.hash.specs.Shake.{shake as Shake·shake, xorInto};
+ghost use Rattle.keccak.specs.Strings.{xorInto};
+ghost use Rattle.hash.specs.Shake.{shake as Shake·shake};
 ghost use Rattle.bits.specs.Bits.{pack as Bits·pack, lowBits};
 ghost use Rattle.ring.specs.Poly.{residues, parts, plus, dot, transposed};
 ghost use Rattle.kindi.specs.Params.{WellFormed, modulus, lengthOf, highWidth, matrixLength, paddedLength, lowLength, encryptWork};
 ghost use Rattle.kindi.specs.Streams.{matrixIn, smallIn, lowIn, firstIn, ephemeralBy, coinsStream};
 ghost use Rattle.kindi.specs.Keys.{joined};
 ghost use Rattle.kindi.specs.Encrypt.{padded, masked as Encrypt·masked, decompressedBy, factorBy, ciphertext};
-ghost use Rattle.hash.proofs.Parts.{patched};
-ghost use Rattle.pke.specs.Vectors.{vector, sumPart, withConstant};
+ghost use Rattle.keccak.proofs.Parts.{patched};
+ghost use Rattle.vectors.specs.Vectors.{vector, sumPart, Rows, withConstant};
 ghost use Rattle.pke.specs.Layout.{cipherFrom};
-ghost use Rattle.pke.specs.Inputs.{Rows, DecompressRoom, FactorRoom, CipherRoom, EphemeralRoom, AssembleRoom, EncryptRoom};
-use crate::lengths;
-use crate::vectors;
+ghost use Rattle.pke.specs.Inputs.{DecompressRoom, FactorRoom, CipherRoom, EphemeralRoom, AssembleRoom, EncryptRoom};
 use kindi::Params;
+use vectors::lengths;
 
 // Where the polynomial in row i, column j of the matrix begins.
 fn entry(p: Params, i: usize, j: usize) -> usize
@@ -36,7 +36,7 @@ fn column(p: Params, rows: &[u8], j: usize, f: &mut [u16])
     let mut i = 0;
     while i < p.l {
         let from = entry(p, i, j);
-        bits::unpack(p.k, &rows[from..], &mut f[at..at + n]);
+        packing::unpack(p.k, &rows[from..], &mut f[at..at + n]);
         at += n;
         i += 1;
     }
@@ -55,7 +55,7 @@ fn decompress_into(p: Params, pk: &[u8], low: &[u8], w: &mut [u16], f: &mut [u16
     requires { ⌜ (DecompressRoom p (now pk) (now low) (now f)) × (length (now w) ≡ length (now f)) ⌝ }
     ensures { λ _. ⌜ now (f .exit) ≡ vector (p .l) (p .n) (decompressedBy p (now (pk .entry)) (lowIn p (now (low .entry)))) ⌝ }
 {
-    bits::unpack(p.k - p.t, pk, f);
+    packing::unpack(p.k - p.t, pk, f);
     vectors::raise(f, p.t);
     vectors::small(p.t, low, vectors::power(p.t - 1), w);
     ring::poly::add(f, w);
@@ -90,7 +90,7 @@ fn cipher_part(p: Params, errors: &[u8], f: &[u16], s: &[u16], acc: &mut [u16], 
     ensures { λ _. ⌜ now (dst .exit) ≡ Bits·pack (p .k) (lowBits (p .k) (sumPart p (now (errors .entry)) (now (f .entry)) (now (s .entry)))) ⌝ }
 {
     vectors::sum_part(p, errors, f, s, acc);
-    bits::pack(p.k, acc, dst);
+    packing::pack(p.k, acc, dst);
 }
 
 // How many polynomials a ciphertext has: C_1 to C_ℓ, and D.
@@ -139,8 +139,8 @@ fn first(p: Params, coins: &[u8], high: &[u8], h: &mut [u16], dst: &mut [u16])
     requires { ⌜ (WellFormed p) × (length (now coins) ≡ p .coins) × (lengthOf p 1 (highWidth p) ≤ length (now high)) × (length (now h) ≡ p .n) × (length (now dst) ≡ p .n) ⌝ }
     ensures { λ _. ⌜ now (dst .exit) ≡ residues 65536 (p .n) (firstIn p (now (coins .entry)) (now (high .entry))) ⌝ }
 {
-    bits::unpack(1, coins, dst);
-    bits::unpack(lengths::width(p) - 1, high, h);
+    packing::unpack(1, coins, dst);
+    packing::unpack(lengths::width(p) - 1, high, h);
     vectors::raise(h, 1);
     ring::poly::add(dst, h);
     ring::poly::centre(dst, p.p);
@@ -198,7 +198,7 @@ pub fn add_padded(message: &[u8], dst: &mut [u8])
     ensures { λ _. ⌜ now (dst .exit) ≡ xorInto (now (dst .entry)) (now (message .entry) ++ (1 ∷ [])) ⌝ }
 {
     let end = message.len();
-    hash::strings::xor_into(dst, message);
+    keccak::strings::xor_into(dst, message);
     dst[end] = dst[end] ^ 1;
 }
 

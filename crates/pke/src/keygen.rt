@@ -8,12 +8,11 @@ ghost use Rattle.ring.specs.Poly.{residues};
 ghost use Rattle.kindi.specs.Params.{WellFormed, modulus, lengthOf, keygenWork};
 ghost use Rattle.kindi.specs.Streams.{matrixIn, smallIn};
 ghost use Rattle.kindi.specs.Keys.{compress as Keys·compress, joined, publicBy, publicKey, secretKey};
-ghost use Rattle.pke.specs.Vectors.{vector, sumPart};
+ghost use Rattle.vectors.specs.Vectors.{vector, sumPart, Rows};
 ghost use Rattle.pke.specs.Layout.{storedFrom};
-ghost use Rattle.pke.specs.Inputs.{Rows, PublicRoom, KeygenRoom};
-use crate::lengths;
-use crate::vectors;
+ghost use Rattle.pke.specs.Inputs.{PublicRoom, KeygenRoom};
 use kindi::Params;
+use vectors::lengths;
 
 // The sum of f_i·r_i and errors, modulo q, without its low t bits, in k − t bits.
 fn public_part(
@@ -32,7 +31,7 @@ fn public_part(
     vectors::sum_part(p, errors, f, r, acc);
     bits::reduce(acc, p.k);
     vectors::compress(acc, t);
-    bits::pack(p.k - t, acc, dst);
+    packing::pack(p.k - t, acc, dst);
 }
 
 // b without its low t bits, polynomial by polynomial.
@@ -59,7 +58,7 @@ fn public_parts(
     let mut at = 0;
     let mut i = 0;
     while i < p.l {
-        bits::unpack(p.k, &rows[row_at..], f);
+        packing::unpack(p.k, &rows[row_at..], f);
         public_part(
             p,
             t,
@@ -122,8 +121,8 @@ pub fn keygen(
     hash::shake(p.rate, mu, &mut work[..matrix]);
     hash::shake(p.rate, gamma, &mut work[matrix..need]);
     public_polynomials(p, p.t, &work[..need], &mut pk[..stored]);
-    hash::strings::copy(&mut pk[stored..], mu);
-    hash::strings::copy(&mut sk[..public], pk);
-    hash::strings::copy(&mut sk[public..end], gamma);
-    hash::strings::copy(&mut sk[end..], z);
+    keccak::strings::copy(&mut pk[stored..], mu);
+    keccak::strings::copy(&mut sk[..public], pk);
+    keccak::strings::copy(&mut sk[public..end], gamma);
+    keccak::strings::copy(&mut sk[end..], z);
 }

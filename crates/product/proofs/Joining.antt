@@ -7,8 +7,8 @@ use native.Mathlib.Omega.{arith}
 use lib.IntN.{pos, _+ℤ_, _-ℤ_, +ℤ-idl}
 use lib.ListN.{length, getD, take, drop, replicate, length-drop, length-append, length-replicate}
 use lib.Seq.{getD-take, getD-drop, length-take-le, length-front, take-append-seam, drop-append-seam}
-use Rattle.hash.proofs.Entries.{tabulate-add}
-use Rattle.hash.proofs.Parts.{patched, patched-rest, take-rest}
+use Rattle.keccak.proofs.Entries.{tabulate-add}
+use Rattle.keccak.proofs.Parts.{patched, patched-rest, take-rest}
 use Rattle.ring.specs.Integers.{Cong, residue}
 use Rattle.ring.specs.Poly.{Poly, plus, minus, ofNats, residues}
 use Rattle.ring.specs.Coefficients.{added}

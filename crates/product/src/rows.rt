@@ -2,7 +2,7 @@
 ghost use mathlib.Core.Path.{_≡_};
 ghost use Prim.Native.Nat.{_+_, _<_};
 ghost use lib.ListN.{length};
-ghost use Rattle.hash.specs.Lists.{tabulate};
+ghost use Rattle.keccak.specs.Lists.{tabulate};
 ghost use Rattle.product.specs.Terms.{fourTerms, addEight};
 ghost use Rattle.product.specs.Toeplitz.{Rows, withToeplitz};
 use ring::poly::add_term;

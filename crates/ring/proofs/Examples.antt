@@ -4,7 +4,7 @@ use mathlib.Core.Bool.{true, false}
 use mathlib.Core.List.{[], _∷_}
 use Prim.Native.Nat.{_^_}
 use lib.IntN.{pos, negsuc}
-use Rattle.hash.specs.Lists.{tabulate, value, digits}
+use Rattle.keccak.specs.Lists.{tabulate, value, digits}
 use Rattle.bits.specs.Bits.{pack}
 use Rattle.ring.specs.Integers.{residue, centred, allBetween}
 use Rattle.ring.specs.Poly.{sum, shifted, mul, ofNats, residues}

@@ -6,5 +6,4 @@ pub mod Ring
 pub mod Residues
 pub mod Product
 pub mod Sizes
-pub mod Reversal
 pub mod Examples

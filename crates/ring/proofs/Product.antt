@@ -8,7 +8,7 @@ use native.Mathlib.Omega.{arith}
 use lib.IntN.{ℤ, pos, negℤ, _+ℤ_, _*ℤ_, +ℤ-assoc, +ℤ-idr}
 use lib.ListN.{length, getD, take, drop, length-append, length-take, length-drop, List·getD-append}
 use lib.Seq.{getD-append-add, getD-take, getD-drop}
-use Rattle.hash.specs.Lists.{tabulate}
+use Rattle.keccak.specs.Lists.{tabulate}
 use Rattle.bits.proofs.Filling.{tabulate-ext}
 use Rattle.ring.proofs.Modular.{cong-of-eq, cong-trans, residue-cong, residue-term}
 use Rattle.ring.proofs.Residues.{residues-at, residues-ext, residues-of-list, length-residues}

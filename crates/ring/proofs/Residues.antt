@@ -5,7 +5,7 @@ use Prim.Native.Nat.{ℕ, _^_, _%_, _≤_, _<_, suc-le-suc, zero-le}
 use lib.ListN.{length, getD, List·getD-eq-default}
 use lib.Seq.{ext-getD}
 use lib.IntN.{pos}
-use Rattle.hash.proofs.Entries.{tabulate-at, length-tabulate}
+use Rattle.keccak.proofs.Entries.{tabulate-at, length-tabulate}
 use Rattle.ring.specs.Integers.{Cong, residue}
 use Rattle.bits.specs.Bits.{Below, lowBits}
 use Rattle.ring.specs.Poly.{Poly, mul, plus, ofNats, residues}

@@ -15,7 +15,7 @@ use lib.Signed.{mag, ltZ, nonNeg}
 use mir.Syntax.{Width, w16, w32}
 use mir.Val.{SFits, hbits, toZ, ofZ}
 use mir.ValLaws.{toZ-ofZ}
-use Rattle.hash.proofs.Entries.{tabulate-at, length-tabulate}
+use Rattle.keccak.proofs.Entries.{tabulate-at, length-tabulate}
 use Rattle.ring.proofs.Ring.{sides}
 use Rattle.ring.proofs.Integers.{mag-le, natAbs-mul, natAbs-neg, pos-sub}
 use Rattle.ring.proofs.Sums.{natAbs-sum, sum-ext, sum-split}

@@ -5,7 +5,7 @@ use mathlib.Core.List.{List}
 use Prim.Native.Nat.{ℕ, _+_, _*_, _%_, _^_, _≤_, _<_}
 use lib.IntN.{ℤ}
 use lib.ListN.{length, getD}
-use Rattle.hash.specs.Lists.{tabulate}
+use Rattle.keccak.specs.Lists.{tabulate}
 use Rattle.ring.specs.Integers.{centred, largest}
 use Rattle.ring.specs.Poly.{plus, minus, mul, ofNats, ofInts, residues}
 

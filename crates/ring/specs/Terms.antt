@@ -4,7 +4,7 @@ use mathlib.Core.List.{List, _++_}
 use Prim.Native.Nat.{ℕ, _+_, _-_, _*_, _%_, _^_, _≤_, _<_}
 use lib.IntN.{ℤ, negℤ, _*ℤ_}
 use lib.ListN.{length, getD}
-use Rattle.hash.specs.Lists.{tabulate}
+use Rattle.keccak.specs.Lists.{tabulate}
 use Rattle.ring.specs.Integers.{largest}
 use Rattle.ring.specs.Poly.{ofNats, ofInts, residues}
 

@@ -1,3 +1,2 @@
 // Polynomials modulo X^n + 1, and their products.
 pub mod poly;
-pub mod signed;

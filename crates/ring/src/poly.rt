@@ -3,7 +3,7 @@ ghost use mathlib.Core.Path.{_≡_};
 ghost use Prim.Native.Nat.{_+_, _*_};
 ghost use lib.IntN.{pos, negℤ, _+ℤ_, _-ℤ_};
 ghost use lib.ListN.{length};
-ghost use Rattle.hash.specs.Lists.{tabulate};
+ghost use Rattle.keccak.specs.Lists.{tabulate};
 ghost use Rattle.ring.specs.Integers.{residue};
 ghost use Rattle.ring.specs.Poly.{ofNats, residues};
 ghost use Rattle.ring.specs.Coefficients.{Factors, withProduct, added, subtracted, centredWords};

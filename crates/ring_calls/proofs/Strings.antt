@@ -8,7 +8,7 @@ use lib.IntN.{pos}
 use lib.ListN.{length, replicate, length-replicate}
 use lib.Pow.{pow-mono}
 use Rattle.bits.proofs.Digits.{unpack-below, length-unpack}
-use Rattle.hash.proofs.Entries.{length-tabulate}
+use Rattle.keccak.proofs.Entries.{length-tabulate}
 use Rattle.ring.proofs.Sizes.{largest-centred, largest-zeros}
 use Rattle.bits.specs.Bits.{unpack}
 use Rattle.ring.specs.Coefficients.{Summable}

@@ -50,7 +50,7 @@ pub extern "C" fn ring_pack(w: u32, src: &[u16], dst: &mut [u8]) -> u32
     if dst.len() != bytes {
         return 1;
     }
-    bits::pack(w, src, dst);
+    packing::pack(w, src, dst);
     0
 }
 
@@ -71,7 +71,7 @@ pub extern "C" fn ring_unpack(w: u32, src: &[u8], dst: &mut [u16]) -> u32
     if src.len() < bytes {
         return 1;
     }
-    bits::unpack(w, src, dst);
+    packing::unpack(w, src, dst);
     0
 }
 
@@ -88,8 +88,8 @@ fn centre(w: u32, p: u16, bytes: &[u8], vs: &mut [u16], xs: &mut [i16])
     requires { ⌜ (w ≤ 10) × (p ≤ 1024) × (length (now vs) ≡ length (now xs)) × (bytesFor (w * length (now xs)) ≤ length (now bytes)) ⌝ }
     ensures { λ _. ⌜ now (xs .exit) ≡ centredString w p (length (now (xs .entry))) (now (bytes .entry)) ⌝ }
 {
-    bits::unpack(w, bytes, vs);
-    ring::signed::centre(vs, p, xs);
+    packing::unpack(w, bytes, vs);
+    signed::centre(vs, p, xs);
 }
 
 fn clear(xs: &mut [i32])
@@ -119,7 +119,7 @@ fn multiply(
     centre(w, p, a, vs, xs);
     centre(w, p, b, vs, ys);
     clear(product);
-    ring::signed::multiply_add(product, xs, ys);
+    signed::multiply_add(product, xs, ys);
 }
 
 // The product of two strings of values of w bits, each less p, over the integers modulo X^n + 1.
@@ -173,6 +173,6 @@ pub extern "C" fn ring_signed_product(
 pub extern "C" fn ring_sizes(xs: &[i32], low: i32, high: i32, most: &mut u32) -> u32
     ensures { λ r. ⌜ (r ≡ cond (allBetween low high (now (xs .entry))) 1 0) × (now (most .exit) ≡ largest (now (xs .entry))) ⌝ }
 {
-    *most = ring::signed::largest(xs);
-    ring::signed::all_between(xs, low, high) as u32
+    *most = signed::largest(xs);
+    signed::all_between(xs, low, high) as u32
 }

@@ -73,7 +73,7 @@ fn pack(w: u32, xs: &mut [u16], bytes: &mut [u8]) -> bool
     if !read_list(xs) {
         return false;
     }
-    bits::pack(w, xs, bytes);
+    packing::pack(w, xs, bytes);
     write_line(bytes)
 }
 
@@ -85,7 +85,7 @@ fn unpack(w: u32, xs: &mut [u16], bytes: &mut [u8]) -> bool
     if io::read_full(STDIN_FILENO, bytes) != m {
         return false;
     }
-    bits::unpack(w, bytes, xs);
+    packing::unpack(w, bytes, xs);
     write_list(xs)
 }
 
@@ -136,14 +136,14 @@ fn centre(w: u32, p: u16, values: &mut [u16], xs: &mut [i16])
     ensures { λ _. ⌜ largest (now (xs .exit)) ≤ 1024 ⌝ }
 {
     bits::reduce(values, w);
-    ring::signed::centre(values, p, xs);
+    signed::centre(values, p, xs);
 }
 
 // The number that has the bits of entry i in two's complement.
 fn bits_of(xs: &[i32], i: usize) -> u32
     requires { ⌜ i < length (now xs) ⌝ }
 {
-    let size = ring::signed::largest(&xs[i..i + 1]);
+    let size = signed::largest(&xs[i..i + 1]);
     if xs[i] < 0 {
         std::num::wrapping_sub_u32(0, size)
     } else {
@@ -180,7 +180,7 @@ fn put_integers(xs: &[i32], dst: &mut [u8])
 // Whether all lie strictly between −bound and bound, as a byte.
 fn within(xs: &[i32], bound: u16) -> u8 {
     let high = bound as i32;
-    if ring::signed::all_between(xs, 0 - high, high) {
+    if signed::all_between(xs, 0 - high, high) {
         1
     } else {
         0
@@ -193,7 +193,7 @@ fn put_answer(xs: &[i32], bound: u16, dst: &mut [u8])
 {
     let m = 4 * xs.len();
     put_integers(xs, dst);
-    put_word(dst, m, ring::signed::largest(xs));
+    put_word(dst, m, signed::largest(xs));
     put_byte(dst, m + 4, within(xs, bound));
 }
 
@@ -232,7 +232,7 @@ fn signed_product(
         return false;
     }
     centre(w, p, values, b);
-    ring::signed::multiply_add(acc, a, b);
+    signed::multiply_add(acc, a, b);
     write_integers(acc, bound)
 }
 

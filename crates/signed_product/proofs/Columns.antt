@@ -12,8 +12,8 @@ use lib.Signed.{mag}
 use mir.Syntax.{w16, w32}
 use mir.Val.{SFits, toZ, ofZ}
 use mir.ValLaws.{toZ-ofZ}
-use Rattle.hash.specs.Lists.{tabulate}
-use Rattle.hash.proofs.Entries.{tabulate-at, length-tabulate}
+use Rattle.keccak.specs.Lists.{tabulate}
+use Rattle.keccak.proofs.Entries.{tabulate-at, length-tabulate}
 use Rattle.bits.proofs.Filling.{tabulate-ext, tabulate-constant}
 use Rattle.ring.specs.Integers.{largest}
 use Rattle.ring.specs.Poly.{Poly, sum, plus, ofInts}

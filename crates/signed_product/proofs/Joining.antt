@@ -7,9 +7,9 @@ use native.Mathlib.Omega.{arith}
 use lib.IntN.{ℤ, pos, negℤ, natAbs, _+ℤ_, _-ℤ_, _*ℤ_, +ℤ-idl, +ℤ-idr, zero-*ℤ}
 use lib.ListN.{length, take, drop, replicate, length-drop, length-replicate}
 use lib.Seq.{getD-take, getD-drop, length-take-le}
-use Rattle.hash.specs.Lists.{tabulate}
-use Rattle.hash.proofs.Entries.{tabulate-at, length-tabulate, tabulate-add}
-use Rattle.hash.proofs.Parts.{take-rest}
+use Rattle.keccak.specs.Lists.{tabulate}
+use Rattle.keccak.proofs.Entries.{tabulate-at, length-tabulate, tabulate-add}
+use Rattle.keccak.proofs.Parts.{take-rest}
 use Rattle.bits.proofs.Filling.{tabulate-ext}
 use Rattle.ring.specs.Integers.{Cong, largest}
 use Rattle.ring.specs.Poly.{Poly, plus, minus, ofInts}

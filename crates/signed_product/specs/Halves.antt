@@ -3,7 +3,7 @@ use mathlib.Core.List.{List, _++_}
 use Prim.Native.Nat.{ℕ, _+_}
 use lib.IntN.{ℤ, negℤ}
 use lib.ListN.{length}
-use Rattle.hash.specs.Lists.{tabulate}
+use Rattle.keccak.specs.Lists.{tabulate}
 use Rattle.ring.specs.Poly.{plus, minus, ofInts}
 
 -- The sum of the first h entries with the next.

@@ -5,7 +5,7 @@ use mathlib.Core.List.{List}
 use Prim.Native.Nat.{ℕ, _+_, _*_, _^_, _≤_, _<_}
 use lib.IntN.{ℤ}
 use lib.ListN.{length}
-use Rattle.hash.specs.Lists.{tabulate}
+use Rattle.keccak.specs.Lists.{tabulate}
 use Rattle.ring.specs.Integers.{largest}
 use Rattle.ring.specs.Poly.{plus, ofInts}
 use Rattle.product.specs.Toeplitz.{toeplitz}

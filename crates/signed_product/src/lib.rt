@@ -6,7 +6,7 @@ ghost use mathlib.Core.Path.{_≡_};
 ghost use Prim.Native.Nat.{_*_, _^_, _<_};
 ghost use lib.IntN.{negℤ};
 ghost use lib.ListN.{length};
-ghost use Rattle.hash.specs.Lists.{tabulate};
+ghost use Rattle.keccak.specs.Lists.{tabulate};
 ghost use Rattle.ring.specs.Integers.{largest};
 ghost use Rattle.ring.specs.Poly.{ofInts};
 ghost use Rattle.ring.specs.Coefficients.{withSignedProduct};
@@ -16,7 +16,6 @@ use halves::difference;
 use halves::toeplitz_128;
 use halves::toeplitz_256;
 use halves::toeplitz_512;
-use ring::signed;
 
 fn negate(src: &[i16], dst: &mut [i16])
     requires { ⌜ (length (now dst) ≡ length (now src)) × (largest (now src) < 2 ^ 15) ⌝ }

@@ -3,7 +3,7 @@ ghost use mathlib.Core.Path.{_≡_};
 ghost use Prim.Native.Nat.{_+_, _*_, _^_, _<_};
 ghost use lib.IntN.{pos, natAbs, _+ℤ_, _*ℤ_};
 ghost use lib.ListN.{length, replicate};
-ghost use Rattle.hash.specs.Lists.{tabulate};
+ghost use Rattle.keccak.specs.Lists.{tabulate};
 ghost use Rattle.ring.specs.Integers.{largest};
 ghost use Rattle.ring.specs.Poly.{plus, ofInts};
 ghost use Rattle.product.specs.Toeplitz.{toeplitz};

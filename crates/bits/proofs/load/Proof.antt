@@ -6,7 +6,7 @@ use native.Mathlib.Omega.{arith}
 use borrow.Author.Needs.{needs}
 use denote.Ref.{now}
 use lib.ListN.{length, getD, length-set}
-use Rattle.hash.specs.Lists.{value}
+use Rattle.keccak.specs.Lists.{value}
 use Rattle.bits.proofs.Digits.{digits-tabulate, pair-digit, value-at}
 use Rattle.bits.proofs.Filling.{filled, filled-none, filled-more, filled-all}
 use Rattle.bits.specs.Bits.{Below, unpack}

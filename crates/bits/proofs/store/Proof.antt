@@ -8,7 +8,7 @@ use borrow.Author.Needs.{needs}
 use denote.Ref.{now}
 use lib.ListN.{length, getD, length-set}
 use lib.Pow.{pow-pos}
-use Rattle.hash.specs.Lists.{digits, value}
+use Rattle.keccak.specs.Lists.{digits, value}
 use Rattle.bits.proofs.Digits.{first-digit, later-digits, digits-tabulate, pair-digit, value-at}
 use Rattle.bits.proofs.Filling.{filled, filled-none, filled-more, filled-all}
 use Rattle.bits.specs.Bits.{Below, bytesFor, pack}

@@ -2,7 +2,7 @@
 -- Assumes nothing.
 use Rattle.decryption.proofs.Masked.{streams-long, mask-cipher}
 use Rattle.pke.proofs.Joining.{two-streams}
-use Rattle.hash.proofs.Parts.{patched, take-rest}
+use Rattle.keccak.proofs.Parts.{patched, take-rest}
 use Rattle.hash.specs.Shake.{shake}
 use Rattle.pke.specs.Layout.{cipherFrom}
 use Rattle.kindi.specs.Keys.{matrixSeed}

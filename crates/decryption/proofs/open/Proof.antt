@@ -2,13 +2,14 @@
 -- Assumes nothing.
 use Rattle.decryption.proofs.Masked.{public-taken, left-all, left-opened, mask-there}
 use Rattle.decryption.specs.Opened.{leftOver, maskCipher}
-use Rattle.pke.proofs.Amounts.{begun-length}
+use Rattle.vectors.proofs.Amounts.{begun-length}
 use Rattle.kindi.specs.Params.{width, matrixLength, lowLength, paddedLength, publicLength}
 use Rattle.kindi.specs.Keys.{joined, matrixSeed, publicPart}
 use Rattle.kindi.specs.Streams.{mask}
 use Rattle.kindi.specs.Decrypt.{errorsFit}
 use Rattle.bits.specs.Bits.{pack, lowBits}
-use Rattle.hash.specs.Shake.{shake, xorInto}
+use Rattle.keccak.specs.Strings.{xorInto}
+use Rattle.hash.specs.Shake.{shake}
 use Rattle.hash.proofs.Laws.{length-shake}
 use lib.ListN.{length, take, drop, length-take}
 use lib.Seq.{take-at}

@@ -6,8 +6,8 @@ use native.Mathlib.Omega.{arith}
 use denote.Ref.{now}
 use lib.ListN.{length, take, getD, length-take, length-drop}
 use lib.Seq.{take-all}
-use Rattle.hash.proofs.Parts.{fill-more, length-patched}
-use Rattle.hash.specs.Lists.{concatMap}
+use Rattle.keccak.proofs.Parts.{fill-more, length-patched}
+use Rattle.keccak.specs.Lists.{concatMap}
 use Rattle.hex.specs.Digits.{byteDigits, hexadecimal}
 use Rattle.hex.proofs.spell.Statement.{statement}
 use Rattle.hex.proofs.spell.Tie as tie

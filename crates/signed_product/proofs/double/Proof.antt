@@ -8,9 +8,9 @@ use denote.Ref.{now}
 use lib.IntN.{ℤ, negℤ}
 use lib.ListN.{length, drop, length-take}
 use lib.Seq.{take-at}
-use Rattle.hash.specs.Lists.{tabulate}
-use Rattle.hash.proofs.Entries.{length-tabulate}
-use Rattle.hash.proofs.Parts.{patched-rest}
+use Rattle.keccak.specs.Lists.{tabulate}
+use Rattle.keccak.proofs.Entries.{length-tabulate}
+use Rattle.keccak.proofs.Parts.{patched-rest}
 use Rattle.ring.specs.Poly.{ofInts}
 use borrow.Author.Needs.{needs}
 use Rattle.signed_product.proofs.double.Statement.{statement}

@@ -1,8 +1,8 @@
 -- `decryption::recover::coins_from` meets its contract.
 -- Assumes nothing.
 use Rattle.decryption.proofs.Value.{coins-rounded}
-use Rattle.pke.proofs.Amounts.{reads, width-bound}
-use Rattle.pke.proofs.Reading.{small-vector}
+use Rattle.vectors.proofs.Amounts.{reads, width-bound}
+use Rattle.vectors.proofs.Reading.{small-vector}
 use Rattle.kindi.specs.Params.{width}
 use Rattle.bits.specs.Bits.{pack, unpack, lowBits}
 use Rattle.ring.specs.Coefficients.{centredWords}

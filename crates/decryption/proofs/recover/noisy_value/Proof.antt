@@ -1,8 +1,8 @@
 -- `decryption::recover::noisy_value` meets its contract.
 -- Assumes nothing.
 use Rattle.decryption.proofs.Value.{value-left, cipher-vector}
-use Rattle.pke.proofs.Amounts.{reads, reads-rest, within, length-le, vectors-of}
-use Rattle.pke.proofs.Reading.{rest-entries}
+use Rattle.vectors.proofs.Amounts.{reads, reads-rest, within, length-le, vectors-of}
+use Rattle.vectors.proofs.Reading.{rest-entries}
 use Rattle.kindi.specs.Decrypt.{cipherPart}
 use Rattle.bits.specs.Bits.{Below, unpack}
 use Prim.Native.Nat.{ℕ, _+_, _≤_}

@@ -1,7 +1,7 @@
 -- `decryption::remainders::remainder` meets its contract.
 -- Assumes nothing.
 use Rattle.decryption.proofs.Left.{left-first}
-use Rattle.pke.proofs.Amounts.{reads, width-bound}
+use Rattle.vectors.proofs.Amounts.{reads, width-bound}
 use Rattle.kindi.specs.Params.{width}
 use Rattle.bits.specs.Bits.{unpack, lowBits}
 use Rattle.ring.specs.Coefficients.{added, subtracted}

@@ -2,14 +2,14 @@
 -- they fit. Assumes nothing.
 use Rattle.decryption.proofs.Left.{left-rest, length-left-all, fits-more}
 use Rattle.decryption.specs.Opened.{leftOver}
-use Rattle.pke.proofs.Amounts.{Placed, placed, length-add, length-none, width-bound, part-length, fills}
+use Rattle.vectors.proofs.Amounts.{Placed, placed, length-add, length-none, width-bound, part-length, fills}
 use Rattle.pke.proofs.Joining.{joined-turn, joined-end}
 use Rattle.kindi.specs.Params.{width, lengthOf}
 use Rattle.kindi.specs.Keys.{joined}
 use Rattle.kindi.specs.Decrypt.{allBelow}
 use Rattle.bits.proofs.Filling.{turn-less}
 use Rattle.bits.specs.Bits.{pack, lowBits, Below}
-use Rattle.hash.proofs.Parts.{take-rest}
+use Rattle.keccak.proofs.Parts.{take-rest}
 use lib.ListN.{length, drop, length-drop}
 use Prim.Native.Nat.{ℕ, _+_, _-_, _*_, _≤_}
 use native.Mathlib.Numerals.{add-one}

@@ -2,12 +2,12 @@
 -- Assumes nothing.
 use Rattle.decryption.proofs.Masked.{part-put}
 use Rattle.decryption.specs.Opened.{leftOver}
-use Rattle.pke.proofs.Amounts.{begun-length, part-length}
+use Rattle.vectors.proofs.Amounts.{begun-length, part-length}
 use Rattle.kindi.specs.Params.{width, matrixLength, lowLength, paddedLength}
 use Rattle.kindi.specs.Keys.{joined}
 use Rattle.kindi.specs.Decrypt.{errorsFit}
 use Rattle.bits.specs.Bits.{pack, lowBits}
-use Rattle.hash.specs.Shake.{xorInto}
+use Rattle.keccak.specs.Strings.{xorInto}
 use lib.ListN.{length, take, drop, length-take}
 use lib.Seq.{take-at}
 use Prim.Native.Nat.{ℕ, _+_, _-_, _≤_}

@@ -6,7 +6,7 @@ use native.Mathlib.Omega.{arith}
 use borrow.Author.Needs.{needs}
 use denote.Ref.{now}
 use Rattle.kindi.proofs.Strings.{whole-bytes}
-use Rattle.pke.proofs.Amounts.{reads}
+use Rattle.vectors.proofs.Amounts.{reads}
 use Rattle.noise.proofs.Agreeing.{dropped-is}
 use Rattle.noise.proofs.agreement.drop_bits.Statement.{statement}
 use Rattle.noise.proofs.agreement.drop_bits.Tie as tie

@@ -6,10 +6,10 @@ use native.Mathlib.Nat.{le-trans}
 use native.Mathlib.Omega.{arith}
 use borrow.Author.Needs.{needs}
 use denote.Ref.{now}
-use Rattle.hash.specs.Lists.{tabulate}
+use Rattle.keccak.specs.Lists.{tabulate}
 use Rattle.kindi.specs.Params.{width}
 use Rattle.kindi.specs.Streams.{ephemeralBy}
-use Rattle.pke.proofs.Amounts.{width-bound, within}
+use Rattle.vectors.proofs.Amounts.{width-bound, within}
 use Rattle.noise.proofs.factors.ephemeral.Statement.{statement}
 use Rattle.noise.proofs.factors.ephemeral.Tie as tie
 

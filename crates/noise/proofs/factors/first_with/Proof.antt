@@ -6,12 +6,12 @@ use native.Mathlib.Omega.{arith}
 use borrow.Author.Needs.{needs}
 use denote.Ref.{now}
 use lib.ListN.{length}
-use Rattle.hash.specs.Lists.{tabulate}
-use Rattle.hash.proofs.Entries.{length-tabulate}
+use Rattle.keccak.specs.Lists.{tabulate}
+use Rattle.keccak.proofs.Entries.{length-tabulate}
 use Rattle.ring.specs.Coefficients.{added}
 use Rattle.kindi.specs.Params.{width, highWidth}
 use Rattle.kindi.specs.Streams.{coefficient}
-use Rattle.pke.proofs.Amounts.{width-bound, length-none}
+use Rattle.vectors.proofs.Amounts.{width-bound, length-none}
 use Rattle.noise.proofs.Tables.{centred-table, twice-table}
 use Rattle.noise.proofs.Bounds.{first-below, first-values, coins-there}
 use Rattle.noise.proofs.factors.first_with.Statement.{statement}

@@ -8,12 +8,12 @@ use borrow.Author.Needs.{needs}
 use denote.Ref.{now}
 use lib.ListN.{length}
 use lib.Pow.{pow-pos}
-use Rattle.hash.specs.Lists.{tabulate}
-use Rattle.hash.proofs.Entries.{length-tabulate}
+use Rattle.keccak.specs.Lists.{tabulate}
+use Rattle.keccak.proofs.Entries.{length-tabulate}
 use Rattle.kindi.specs.Params.{width}
 use Rattle.kindi.specs.Streams.{coefficient}
 use Rattle.kindi.proofs.Strings.{tabulate-below}
-use Rattle.pke.proofs.Amounts.{width-bound, within}
+use Rattle.vectors.proofs.Amounts.{width-bound, within}
 use Rattle.pke.proofs.Made.{errors-inside}
 use Rattle.noise.specs.Terms.{keyNoiseIn}
 use Rattle.noise.proofs.Tables.{low-table, combined-table}

@@ -8,10 +8,10 @@ use borrow.Author.Needs.{needs}
 use denote.Ref.{now}
 use lib.ListN.{length, take, drop, length-append}
 use lib.Seq.{take-at}
-use Rattle.hash.specs.Lists.{tabulate}
+use Rattle.keccak.specs.Lists.{tabulate}
 use Rattle.kindi.specs.Params.{width}
 use Rattle.kindi.specs.Streams.{coefficient}
-use Rattle.pke.proofs.Amounts.{width-bound}
+use Rattle.vectors.proofs.Amounts.{width-bound}
 use Rattle.noise.proofs.Tables.{prefix-long, centred-table}
 use Rattle.noise.proofs.Bounds.{small-values}
 use Rattle.noise.proofs.factors.small.Statement.{statement}

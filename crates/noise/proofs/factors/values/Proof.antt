@@ -8,10 +8,10 @@ use native.Mathlib.Omega.{arith}
 use borrow.Author.Needs.{needs}
 use denote.Ref.{now}
 use lib.ListN.{drop}
-use Rattle.hash.proofs.Parts.{take-rest}
+use Rattle.keccak.proofs.Parts.{take-rest}
 use Rattle.bits.specs.Bits.{Below, unpack}
-use Rattle.pke.proofs.Amounts.{reads-rest}
-use Rattle.pke.proofs.Reading.{unpack-from}
+use Rattle.vectors.proofs.Amounts.{reads-rest}
+use Rattle.vectors.proofs.Reading.{unpack-from}
 use Rattle.noise.proofs.factors.values.Statement.{statement}
 use Rattle.noise.proofs.factors.values.Tie as tie
 

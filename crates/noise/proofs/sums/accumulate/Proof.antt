@@ -9,12 +9,12 @@ use borrow.Author.Needs.{needs}
 use denote.Ref.{now}
 use lib.IntN.{pos}
 use lib.ListN.{length, take, drop, length-drop, length-replicate}
-use Rattle.hash.proofs.Parts.{take-rest}
+use Rattle.keccak.proofs.Parts.{take-rest}
 use Rattle.ring.specs.Integers.{largest}
 use Rattle.ring.proofs.Sizes.{largest-zeros}
 use Rattle.kindi.specs.Params.{width, paddedLength}
 use Rattle.kindi.specs.Streams.{smallIn}
-use Rattle.pke.proofs.Amounts.{width-bound, within, part-length}
+use Rattle.vectors.proofs.Amounts.{width-bound, within, part-length}
 use Rattle.noise.proofs.Products.{errors-size, rest-size, largest-table}
 use Rattle.noise.proofs.Bounds.{noiseMost, small-sized, error-sized}
 use Rattle.noise.proofs.Streams.{accumulated}

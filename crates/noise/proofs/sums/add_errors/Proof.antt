@@ -5,11 +5,11 @@ use Prim.Native.Nat.{_-_, _≤_, _<_}
 use native.Mathlib.Omega.{arith}
 use denote.Ref.{now}
 use lib.ListN.{length}
-use Rattle.hash.proofs.Entries.{length-tabulate}
+use Rattle.keccak.proofs.Entries.{length-tabulate}
 use Rattle.bits.proofs.Filling.{turn-less}
 use Rattle.kindi.specs.Params.{width}
 use Rattle.kindi.specs.Streams.{smallIn}
-use Rattle.pke.proofs.Amounts.{width-bound, within}
+use Rattle.vectors.proofs.Amounts.{width-bound, within}
 use Rattle.noise.proofs.Products.{partial, partial-none, partial-more, factors}
 use Rattle.noise.proofs.Bounds.{noiseMost, small-sized, error-sized, some-small, some-noise}
 use Rattle.noise.proofs.sums.add_errors.Statement.{statement}

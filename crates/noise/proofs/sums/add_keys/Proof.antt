@@ -5,7 +5,7 @@ use Prim.Native.Nat.{_-_, _≤_}
 use native.Mathlib.Omega.{arith}
 use denote.Ref.{now}
 use lib.ListN.{length}
-use Rattle.hash.proofs.Entries.{length-tabulate}
+use Rattle.keccak.proofs.Entries.{length-tabulate}
 use Rattle.bits.proofs.Filling.{turn-less}
 use Rattle.kindi.specs.Streams.{ephemeralBy}
 use Rattle.noise.specs.Terms.{keyNoiseIn}

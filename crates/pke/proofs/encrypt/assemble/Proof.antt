@@ -1,8 +1,8 @@
 -- `pke::encrypt::assemble` meets its contract.
 -- Assumes nothing.
 use Rattle.pke.proofs.Assembly.{assemble-is}
-use Rattle.pke.proofs.Amounts.{begun-length, part-length}
-use Rattle.hash.proofs.Parts.{take-rest}
+use Rattle.vectors.proofs.Amounts.{begun-length, part-length}
+use Rattle.keccak.proofs.Parts.{take-rest}
 use lib.Seq.{take-at}
 use lib.ListN.{length, take, drop, length-take, length-drop}
 use Prim.Native.Nat.{_+_, _*_, _-_}

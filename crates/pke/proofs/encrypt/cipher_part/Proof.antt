@@ -1,6 +1,6 @@
 -- `pke::encrypt::cipher_part` meets its contract.
 -- Assumes nothing.
-use Rattle.pke.proofs.Amounts.{fills}
+use Rattle.vectors.proofs.Amounts.{fills}
 use Rattle.bits.specs.Bits.{pack, lowBits}
 use Prim.Native.Nat.{ℕ, _-_}
 use mathlib.Core.List.{List}

@@ -2,7 +2,7 @@
 -- Assumes nothing.
 use Rattle.pke.proofs.Cipher.{reduced, part-is, length-reduced-all}
 use Rattle.pke.proofs.Joining.{joined-turn, joined-end}
-use Rattle.pke.proofs.Amounts.{Placed, placed, length-add, length-none, width-bound, part-length}
+use Rattle.vectors.proofs.Amounts.{Placed, placed, length-add, length-none, width-bound, part-length}
 use Rattle.kindi.specs.Params.{modulus, width, lengthOf}
 use Rattle.kindi.specs.Streams.{matrixIn, lowIn, smallIn}
 use Rattle.kindi.specs.Encrypt.{factorBy}
@@ -11,7 +11,7 @@ use Rattle.bits.proofs.Filling.{turn-less}
 use Rattle.ring.proofs.Modular.{cong-refl}
 use Rattle.ring.specs.Poly.{Poly, parts, plus, dot, residues}
 use Rattle.bits.specs.Bits.{pack, Below}
-use Rattle.hash.proofs.Parts.{take-rest}
+use Rattle.keccak.proofs.Parts.{take-rest}
 use lib.ListN.{length, drop, length-drop}
 use Prim.Native.Nat.{ℕ, _+_, _-_, _≤_}
 use denote.Ref.{now}

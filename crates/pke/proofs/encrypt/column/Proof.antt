@@ -18,10 +18,10 @@ use Rattle.kindi.specs.Params.{lengthOf}
 use Rattle.kindi.specs.Streams.{matrixIn}
 use Rattle.kindi.specs.Keys.{joined}
 use Rattle.kindi.proofs.Strings.{length-joined}
-use Rattle.pke.specs.Vectors.{vector}
-use Rattle.pke.proofs.Amounts.{Placed, placed, reads-rest, part-length, cell, square}
+use Rattle.vectors.specs.Vectors.{vector}
+use Rattle.vectors.proofs.Amounts.{Placed, placed, reads-rest, part-length, cell, square}
 use Rattle.pke.proofs.Joining.{joined-turn, joined-end}
-use Rattle.pke.proofs.Reading.{rest-entries}
+use Rattle.vectors.proofs.Reading.{rest-entries}
 use Rattle.pke.proofs.encrypt.column.Statement.{statement}
 use Rattle.pke.proofs.encrypt.column.Tie as tie
 

@@ -1,6 +1,6 @@
 -- `pke::encrypt::decompress` meets its contract.
 -- Assumes nothing.
-use Rattle.pke.specs.Vectors.{vector}
+use Rattle.vectors.specs.Vectors.{vector}
 use lib.ListN.{length, length-take}
 use Prim.Native.Nat.{_-_}
 use native.Mathlib.Omega.{arith}

@@ -1,8 +1,8 @@
 -- `pke::encrypt::decompress_into` meets its contract.
 -- Assumes nothing.
-use Rattle.pke.proofs.Amounts.{vector-some, half-power, reads}
+use Rattle.vectors.proofs.Amounts.{vector-some, half-power, reads}
 use Rattle.pke.proofs.Terms.{decompress-is}
-use Rattle.pke.specs.Vectors.{raised, withConstant}
+use Rattle.vectors.specs.Vectors.{raised, withConstant}
 use Rattle.ring.specs.Coefficients.{added, centredWords}
 use Rattle.bits.specs.Bits.{unpack}
 use Prim.Native.Nat.{ℕ, _-_}

@@ -2,7 +2,7 @@
 -- Assumes nothing.
 use Rattle.kindi.specs.Streams.{coinsStream}
 use Rattle.kindi.specs.Encrypt.{masked}
-use Rattle.hash.proofs.Parts.{patched, take-rest}
+use Rattle.keccak.proofs.Parts.{patched, take-rest}
 use Rattle.hash.specs.Shake.{shake}
 use Rattle.pke.proofs.Assembly.{encrypt-is}
 use Rattle.pke.specs.Layout.{cipherFrom}

@@ -2,7 +2,7 @@
 -- Assumes nothing.
 use native.Mathlib.Omega.{arith}
 use borrow.Author.Needs.{needs}
-use Rattle.pke.proofs.Amounts.{cell, square}
+use Rattle.vectors.proofs.Amounts.{cell, square}
 use Rattle.pke.proofs.encrypt.entry.Statement.{statement}
 use Rattle.pke.proofs.encrypt.entry.Tie as tie
 

@@ -1,11 +1,11 @@
 -- `pke::encrypt::ephemeral` meets its contract.
 -- Assumes nothing.
-use Rattle.pke.proofs.Reading.{small-vector}
-use Rattle.pke.proofs.Amounts.{reads, width-bound, rest-size, begun-length, begins}
+use Rattle.vectors.proofs.Reading.{small-vector}
+use Rattle.vectors.proofs.Amounts.{reads, width-bound, rest-size, begun-length, begins}
 use Rattle.kindi.specs.Params.{width}
 use Rattle.ring.specs.Coefficients.{centredWords}
 use Rattle.bits.specs.Bits.{unpack}
-use Rattle.hash.proofs.Parts.{patched-rest}
+use Rattle.keccak.proofs.Parts.{patched-rest}
 use lib.Seq.{take-at}
 use lib.ListN.{length, take, drop, length-take, length-drop}
 use Prim.Native.Nat.{ℕ, _*_, _-_}

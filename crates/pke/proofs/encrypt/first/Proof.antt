@@ -1,9 +1,9 @@
 -- `pke::encrypt::first` meets its contract.
 -- Assumes nothing.
-use Rattle.pke.proofs.Amounts.{reads, width-bound}
+use Rattle.vectors.proofs.Amounts.{reads, width-bound}
 use Rattle.pke.proofs.Terms.{first-is}
 use Rattle.kindi.specs.Params.{width, highWidth}
-use Rattle.pke.specs.Vectors.{raised}
+use Rattle.vectors.specs.Vectors.{raised}
 use Rattle.ring.specs.Coefficients.{added, centredWords}
 use Rattle.bits.specs.Bits.{unpack}
 use Prim.Native.Nat.{ℕ, _-_}

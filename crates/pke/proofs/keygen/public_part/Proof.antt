@@ -1,7 +1,7 @@
 -- `pke::keygen::public_part` meets its contract.
 -- Assumes nothing.
 use Rattle.pke.proofs.Made.{packed-sum}
-use Rattle.pke.proofs.Amounts.{fills}
+use Rattle.vectors.proofs.Amounts.{fills}
 use denote.Ref.{now}
 use lib.ListN.{length}
 use native.Mathlib.Omega.{arith}
@@ -9,7 +9,7 @@ use Prim.Native.Nat.{ℕ, _-_}
 use mathlib.Core.Path.{_≡_, _∙_}
 use borrow.Author.Needs.{needs}
 use Rattle.pke.proofs.keygen.public_part.Statement.{statement}
-use Rattle.pke.specs.Vectors.{sumPart}
+use Rattle.vectors.specs.Vectors.{sumPart}
 use mathlib.Core.List.{List}
 use Rattle.pke.proofs.keygen.public_part.Tie as tie
 

@@ -14,7 +14,7 @@ use borrow.Author.Needs.{needs}
 use Rattle.bits.specs.Bits.{Below}
 use Rattle.kindi.specs.Params.{width, lengthOf}
 use Rattle.kindi.specs.Keys.{joined}
-use Rattle.pke.proofs.Amounts.{length-none, length-bound, square, width-bound, reads, part-length}
+use Rattle.vectors.proofs.Amounts.{length-none, length-bound, square, width-bound, reads, part-length}
 use Rattle.pke.proofs.Joining.{rest-long, same-long, joined-none, joined-turn, joined-end}
 use Rattle.pke.proofs.keygen.public_parts.Statement.{statement}
 use Rattle.pke.proofs.keygen.public_parts.Tie as tie

@@ -1,6 +1,6 @@
 -- `pke::keygen::public_polynomials` meets its contract.
 -- Assumes nothing.
-use Rattle.pke.proofs.Amounts.{length-le, width-bound, reads}
+use Rattle.vectors.proofs.Amounts.{length-le, width-bound, reads}
 use Rattle.pke.proofs.Joining.{rest-long, rest-is}
 use Rattle.pke.proofs.Made.{stored-made, secret-held}
 use Rattle.kindi.specs.Params.{width, lengthOf, secretsLength}

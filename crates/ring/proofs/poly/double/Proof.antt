@@ -9,7 +9,7 @@ use denote.Ref.{now}
 use lib.IntN.{negℤ}
 use lib.ListN.{length, drop, length-take}
 use lib.Seq.{take-at}
-use Rattle.hash.proofs.Parts.{patched-rest}
+use Rattle.keccak.proofs.Parts.{patched-rest}
 use Rattle.ring.proofs.Residues.{length-residues}
 use Rattle.ring.specs.Poly.{ofNats, residues}
 use Rattle.ring.proofs.poly.double.Statement.{statement}

@@ -10,7 +10,7 @@ use lib.ListN.{length, getD, length-set}
 use mir.Syntax.{w16}
 use mir.Val.{toZ, ofZ}
 use mir.ValLaws.{toZ-ofZ}
-use Rattle.hash.specs.Lists.{tabulate}
+use Rattle.keccak.specs.Lists.{tabulate}
 use Rattle.bits.proofs.Filling.{filled, filled-none, filled-more, filled-at, filled-all}
 use Rattle.ring.specs.Poly.{ofInts}
 use Rattle.signed_product.proofs.Columns.{word, read-term, term-room}

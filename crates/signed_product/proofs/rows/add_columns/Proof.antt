@@ -6,7 +6,7 @@ use native.Mathlib.Omega.{arith}
 use denote.Ref.{now}
 use lib.IntN.{pos}
 use lib.ListN.{length, length-replicate}
-use Rattle.hash.specs.Lists.{tabulate}
+use Rattle.keccak.specs.Lists.{tabulate}
 use Rattle.ring.specs.Poly.{ofInts}
 use Rattle.signed_product.proofs.Columns.{word, columns, columns-none, columns-all, column-long, column-more, column-room}
 use Rattle.signed_product.proofs.rows.add_columns.Statement.{statement}

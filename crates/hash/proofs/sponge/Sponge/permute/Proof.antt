@@ -1,41 +1,19 @@
--- `hash::sponge::Sponge::permute` meets its contract: the string of the permuted state of the string.
--- Assumes nothing.
-use mathlib.Core.Path.{ap, _∙_}
+-- `hash::sponge::Sponge::permute` meets its contract: the sponge of the permuted string. Assumes nothing.
+use mathlib.Core.Path.{ap}
 use mathlib.Core.List.{List}
 use Prim.Native.Nat.{ℕ}
 use borrow.Author.Needs.{needs}
 use Rattle.hash.proofs.Steps.{sponge}
 use Rattle.hash.proofs.sponge.Sponge.permute.Statement.{statement}
-use Rattle.hash.specs.Keccak.{keccakF}
-use Rattle.hash.specs.Shake.{fromState, permute}
 use Rattle.hash.specs.Stream.{permuted}
 use Rattle.hash.proofs.sponge.Sponge.permute.Tie as tie
 
-slice-aggregate-to-state : tie.Need-slice-aggregate-to-state
-slice-aggregate-to-state c = search needs
-
-to-state-requires : tie.Need-to-state-requires
-to-state-requires c κs = search needs
-
-keccak-f-requires : tie.Need-keccak-f-requires
-keccak-f-requires c κs = search needs
-
-from-state-requires : tie.Need-from-state-requires
-from-state-requires c κs = search needs
+permute-requires : tie.Need-permute-requires
+permute-requires c κs = search needs
 
 returns : tie.Need-returns
-unfolding permuted permute
-returns c =
-    let s = c .before .before .before .before .before .args .self in
-    ap (λ (l : List ℕ). sponge l 0 (s .rate))
-    (c .from-state .ensures ∙ ap fromState (c .before .keccak-f .ensures ∙ ap keccakF (c .before .before .to-state .ensures)))
+unfolding permuted
+returns c = ap (λ (l : List ℕ). sponge l 0 (c .before .before .args .self .rate)) (c .permute .ensures)
 
 pub permute-spec : {M : Type 1} → statement M
-permute-spec =
-    tie.close
-    (tie.spec
-    slice-aggregate-to-state
-    to-state-requires
-    keccak-f-requires
-    from-state-requires
-    returns)
+permute-spec = tie.close (tie.spec permute-requires returns)

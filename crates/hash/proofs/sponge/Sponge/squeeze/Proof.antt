@@ -6,7 +6,7 @@ use native.Mathlib.Omega.{arith}
 use denote.Ref.{now}
 use lib.ListN.{length, take, drop, length-take, length-drop}
 use lib.Seq.{take-all}
-use Rattle.hash.proofs.Parts.{length-patched}
+use Rattle.keccak.proofs.Parts.{length-patched}
 use Rattle.hash.proofs.Steps.{Ready, is-ready-as, sound-advanced, squeeze-more, squeeze-more-bytes}
 use Rattle.hash.proofs.sponge.Sponge.squeeze.Statement.{statement}
 use Rattle.hash.specs.Stream.{Sound, squeezed, advanced}

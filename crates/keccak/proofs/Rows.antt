@@ -1,0 +1,34 @@
+-- Rows of five, and the rotation of a lane as the code writes it. Assumes nothing.
+use mathlib.Core.Path.{_≡_, sym, ap, ap₂, _∙_, subst}
+use mathlib.Core.List.{List, [], _∷_}
+use Prim.Native.Nat.{ℕ, zero, suc, _+_, _-_, _*_, _/_, _%_, _^_, _<_}
+use native.Mathlib.Nat.{mod-eq-of-lt, div-eq-of-lt, mul-one, div-one, add-zero, add-comm, mul-mod-left}
+use native.Mathlib.Omega.{arith}
+use lib.Bits.{bitOr, or-self, or-shifted}
+use lib.Pow.{mod-pow-add, shr-lt, shl-shr}
+use Rattle.keccak.specs.Keccak.{rotl}
+
+-- Two lists of five are equal when their entries are.
+pub five-equal : {A : Type 0} {a b c d e a′ b′ c′ d′ e′ : A} → a ≡ a′ → b ≡ b′ → c ≡ c′ → d ≡ d′ → e ≡ e′
+    → _≡_ {A = List A} (a ∷ b ∷ c ∷ d ∷ e ∷ []) (a′ ∷ b′ ∷ c′ ∷ d′ ∷ e′ ∷ [])
+five-equal p q r s t = λ i. p i ∷ q i ∷ r i ∷ s i ∷ t i ∷ []
+
+-- A lane moved up by k places holds its j low bits, where j and k are 64 together.
+shifted : (j k v : ℕ) → j + k ≡ 64 → (v * 2 ^ k) % 2 ^ 64 ≡ (v % 2 ^ j) * 2 ^ k
+shifted j k v e =
+    ap (λ (w : ℕ). (v * 2 ^ k) % 2 ^ w) (sym e) ∙ mod-pow-add (v * 2 ^ k) j k
+    ∙ ap₂ (λ (x y : ℕ). x % 2 ^ j * 2 ^ k + y) (shl-shr v k) (mul-mod-left v (2 ^ k)) ∙ add-zero _
+
+joined : (j k v : ℕ) → j + k ≡ 64 → v < 2 ^ 64 → bitOr ((v * 2 ^ k) % 2 ^ 64) (v / 2 ^ j) ≡ (v * 2 ^ k) % 2 ^ 64 + v / 2 ^ j
+joined j k v e l =
+    let fits : v < 2 ^ (k + j) = subst (λ (w : ℕ). v < 2 ^ w) (sym (add-comm k j ∙ e)) l in
+    rw (shifted j k v e) (or-shifted (v % 2 ^ j) k (v / 2 ^ j) (shr-lt k j fits))
+
+-- The two shifts of a lane, one of them by 64 − n taken modulo 64, join to the rotation.
+pub rotl-shifts : (n v : ℕ) → n < 64 → v < 2 ^ 64 → bitOr ((v * 2 ^ n) % 2 ^ 64) (v / 2 ^ ((64 - n) % 64)) ≡ rotl n v
+rotl-shifts zero v h l =
+    let low : (v * 1) % 2 ^ 64 ≡ v = ap (λ (x : ℕ). x % 2 ^ 64) (mul-one v) ∙ mod-eq-of-lt l in
+    ap₂ bitOr low (div-one v) ∙ or-self v ∙ sym (ap₂ _+_ low (div-eq-of-lt l) ∙ add-zero v)
+rotl-shifts (suc n) v h l =
+    let rest : (64 - suc n) % 64 ≡ 64 - suc n = mod-eq-of-lt (omega arith) in
+    rw rest (joined (64 - suc n) (suc n) v (omega arith) l)

@@ -1,0 +1,2 @@
+-- The laws that the proofs of `packing` share.
+pub mod Packing

@@ -1,0 +1,2 @@
+-- The laws that the proofs of `signed` share.
+pub mod Reversal

@@ -1,0 +1,4 @@
+-- The laws that the proofs of `vectors` share.
+pub mod Amounts
+pub mod Reading
+pub mod Sums

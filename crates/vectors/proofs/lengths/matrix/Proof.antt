@@ -1,0 +1,22 @@
+-- `vectors::lengths::matrix` meets its contract.
+-- Assumes nothing.
+use Rattle.vectors.proofs.Amounts.{square}
+use Prim.Native.Nat.{_-_}
+use native.Mathlib.Omega.{arith}
+use borrow.Author.Needs.{needs}
+use Rattle.vectors.proofs.lengths.matrix.Statement.{statement}
+use Rattle.vectors.proofs.lengths.matrix.Tie as tie
+
+mul-length-of : tie.Need-mul-length-of
+mul-length-of c =
+    let b = square (c .before .pre .few) in
+    omega (arith, b)
+
+length-of-requires : tie.Need-length-of-requires
+length-of-requires c κs = (c .before .pre, square (c .before .pre .few), c .before .pre .word)
+
+returns : tie.Need-returns
+returns c = search needs
+
+pub matrix-spec : {M : Type 1} → statement M
+matrix-spec = tie.close (tie.spec mul-length-of length-of-requires returns)

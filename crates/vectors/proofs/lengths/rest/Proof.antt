@@ -1,0 +1,25 @@
+-- `vectors::lengths::rest` meets its contract.
+-- Assumes nothing.
+use Rattle.kindi.specs.Params.{width, lengthOf}
+use Prim.Native.Nat.{_-_}
+use mathlib.Core.Path.{ap, _∙_}
+use borrow.Author.Needs.{needs}
+use Rattle.vectors.proofs.lengths.rest.Statement.{statement}
+use Rattle.vectors.proofs.lengths.rest.Tie as tie
+
+sub-length-of : tie.Need-sub-length-of
+sub-length-of c = search needs
+
+width-requires : tie.Need-width-requires
+width-requires c κs = search needs
+
+length-of-requires : tie.Need-length-of-requires
+length-of-requires c κs = search needs
+
+returns : tie.Need-returns
+returns c =
+    let p = c .before .before .before .args .p in
+    (c .length-of .ensures .0 ∙ ap (lengthOf p (p .l - 1)) (c .before .width .ensures), c .length-of .ensures .1)
+
+pub rest-spec : {M : Type 1} → statement M
+rest-spec = tie.close (tie.spec sub-length-of width-requires length-of-requires returns)

@@ -1,0 +1,25 @@
+-- `vectors::lengths::secrets` meets its contract.
+-- Assumes nothing.
+use Rattle.kindi.specs.Params.{width, lengthOf}
+use Prim.Native.Nat.{_*_, _-_}
+use mathlib.Core.Path.{ap, _∙_}
+use borrow.Author.Needs.{needs}
+use Rattle.vectors.proofs.lengths.secrets.Statement.{statement}
+use Rattle.vectors.proofs.lengths.secrets.Tie as tie
+
+mul-length-of : tie.Need-mul-length-of
+mul-length-of c = search needs
+
+width-requires : tie.Need-width-requires
+width-requires c κs = search needs
+
+length-of-requires : tie.Need-length-of-requires
+length-of-requires c κs = search needs
+
+returns : tie.Need-returns
+returns c =
+    let p = c .before .before .before .args .p in
+    (c .length-of .ensures .0 ∙ ap (lengthOf p (2 * p .l)) (c .before .width .ensures), c .length-of .ensures .1)
+
+pub secrets-spec : {M : Type 1} → statement M
+secrets-spec = tie.close (tie.spec mul-length-of width-requires length-of-requires returns)

@@ -1,0 +1,25 @@
+-- `vectors::small` meets its contract.
+-- Assumes nothing.
+-- `vectors::small` meets its contract.
+-- Assumes nothing.
+use Rattle.ring.specs.Coefficients.{centredWords}
+use Prim.Native.Nat.{_-_}
+use mathlib.Core.Path.{ap, _∙_}
+use borrow.Author.Needs.{needs}
+use Rattle.vectors.proofs.small.Statement.{statement}
+use Rattle.vectors.proofs.small.Tie as tie
+
+unpack-requires : tie.Need-unpack-requires
+unpack-requires c κs = search needs
+
+centre-requires : tie.Need-centre-requires
+centre-requires c κs = search needs
+
+same-length : tie.Need-same-length
+same-length c = search needs
+
+returns : tie.Need-returns
+returns c = c .before .before .centre .ensures ∙ ap (centredWords (c .before .before .before .before .before .before .before .before .before .before .args .c)) (c .before .before .before .before .before .before .unpack .ensures)
+
+pub small-spec : {M : Type 1} → statement M
+small-spec = tie.close (tie.spec unpack-requires centre-requires same-length returns)

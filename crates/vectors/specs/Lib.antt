@@ -1,0 +1,2 @@
+-- What the contracts of `vectors` say.
+pub mod Vectors

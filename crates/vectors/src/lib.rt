@@ -1,0 +1,82 @@
+// Vectors of polynomials, one after another in a slice, with coefficients modulo 2^16; the lengths of a set's strings.
+pub mod lengths;
+
+ghost use mathlib.Core.Path.{_≡_};
+ghost use mathlib.Core.List.{map};
+ghost use Prim.Native.Nat.{_*_, _%_, _^_, _≤_, _<_};
+ghost use lib.ListN.{length};
+ghost use Rattle.bits.specs.Bits.{unpack as Bits·unpack};
+ghost use Rattle.ring.specs.Coefficients.{centredWords};
+ghost use Rattle.kindi.specs.Keys.{compress as Keys·compress};
+ghost use Rattle.vectors.specs.Vectors.{raised, sumPart, Rows};
+use kindi::Params;
+use lengths::width;
+use packing::unpack;
+use product::dot_add;
+use ring::poly::centre;
+
+// Room for a vector, and for one polynomial.
+pub fn zeros() -> [u16; 1536] {
+    [0; 1536]
+}
+
+pub fn polynomial() -> [u16; 512] {
+    [0; 512]
+}
+
+pub fn power(i: u32) -> u16
+    requires { ⌜ i < 16 ⌝ }
+    ensures { λ r. ⌜ r ≡ 2 ^ i ⌝ }
+{
+    1 << i
+}
+
+// Coefficients of w bits, each less c.
+pub fn small(w: u32, bytes: &[u8], c: u16, dst: &mut [u16])
+    requires { ⌜ (w ≤ 16) × (w * length (now dst) ≤ 8 * length (now bytes)) ⌝ }
+    ensures { λ _. ⌜ now (dst .exit) ≡ centredWords c (Bits·unpack w (length (now (dst .entry))) (now (bytes .entry))) ⌝ }
+{
+    unpack(w, bytes, dst);
+    centre(dst, c);
+}
+
+// c times 2^t, modulo 2^16.
+fn shift(c: u16, t: u32) -> u16
+    requires { ⌜ t < 16 ⌝ }
+    ensures { λ r. ⌜ r ≡ 2 ^ t * c % 65536 ⌝ }
+{
+    (((c as u32) << t) % 65536) as u16
+}
+
+// Each coefficient times 2^t.
+pub fn raise(xs: &mut [u16], t: u32)
+    requires { ⌜ t < 16 ⌝ }
+    ensures { λ _. ⌜ now (xs .exit) ≡ raised t (now (xs .entry)) ⌝ }
+{
+    let mut i = 0;
+    while i < xs.len() {
+        xs[i] = shift(xs[i], t);
+        i += 1;
+    }
+}
+
+// Each coefficient without its low t bits.
+pub fn compress(xs: &mut [u16], t: u32)
+    requires { ⌜ t < 16 ⌝ }
+    ensures { λ _. ⌜ now (xs .exit) ≡ map (Keys·compress t) (now (xs .entry)) ⌝ }
+{
+    let mut i = 0;
+    while i < xs.len() {
+        xs[i] = xs[i] >> t;
+        i += 1;
+    }
+}
+
+// The sum of f_i·s_i with the polynomial of errors that a string begins with.
+pub fn sum_part(p: Params, errors: &[u8], f: &[u16], s: &[u16], acc: &mut [u16])
+    requires { ⌜ Rows p (now errors) (now f) (now s) (now acc) ⌝ }
+    ensures { λ _. ⌜ now (acc .exit) ≡ sumPart p (now (errors .entry)) (now (f .entry)) (now (s .entry)) ⌝ }
+{
+    small(width(p), errors, p.p, acc);
+    dot_add(acc, f, s, p.l);
+}
