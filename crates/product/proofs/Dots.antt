@@ -13,7 +13,7 @@ use Rattle.ring.specs.Poly.{Poly, sum, plus, shifted, mul, dot, parts, ofNats, 
 use Rattle.ring.specs.Integers.{Cong}
 use Rattle.ring.specs.Coefficients.{withProduct}
 use Rattle.ring.specs.Terms.{doubled}
-use Rattle.product.specs.Dots.{Eights, Vectors, withDot}
+use Rattle.product.specs.Dots.{Factors, Vectors, withDot}
 use Rattle.product.specs.Toeplitz.{toeplitz, withToeplitz}
 use Rattle.ring.proofs.Modular.{cong-add, cong-mul, cong-of-eq, cong-refl, cong-trans}
 use Rattle.ring.proofs.Residues.{length-residues, residues-ext, residues-cong, residues-of-list, ofNats-residues}
@@ -27,7 +27,7 @@ doubled-entry : (n : ℕ) (b : List ℕ) → length b ≡ n → (i k : ℕ) → 
 doubled-entry n b e i k hi hk = rw (← e) (doubled-at b i k (rw e hi) (rw e hk))
 
 -- The matrix of b, from its doubled row, times a is the product.
-pub product-of-row : (acc a b row none : List ℕ) → Eights acc a b → row ≡ doubled b
+pub product-of-row : (acc a b row none : List ℕ) → Factors acc a b → row ≡ doubled b
     → withToeplitz acc (take (2 * length acc) (row ++ none)) a ≡ withProduct acc a b
 unfolding withToeplitz toeplitz mul
 product-of-row acc a b row none p e =
@@ -84,12 +84,11 @@ part-long m i n f long h =
 
 -- Part i of two vectors are factors.
 pub part-factors : (m i at : ℕ) (acc ys f s : List ℕ) → Vectors m acc f s → i < m → at ≡ i * length acc → length ys ≡ length acc
-    → Eights ys (take (at + length acc - at) (drop at f)) (take (at + length acc - at) (drop at s))
+    → Factors ys (take (at + length acc - at) (drop at f)) (take (at + length acc - at) (drop at s))
 part-factors m i at acc ys f s v h e long =
     rw (add-sub-cancel-left at (length acc)) (rw e (record {
       first = part-long m i (length acc) f (v .first) h ∙ sym long;
       second = part-long m i (length acc) s (v .second) h ∙ sym long;
-      whole = rw long (v .whole);
       short = rw long (v .short);
     }))
 

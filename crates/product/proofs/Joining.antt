@@ -14,7 +14,7 @@ use Rattle.ring.specs.Poly.{Poly, plus, minus, ofNats, residues}
 use Rattle.ring.specs.Coefficients.{added}
 use Rattle.ring.proofs.Modular.{cong-of-eq, cong-refl, cong-trans, cong-add}
 use Rattle.ring.proofs.Residues.{length-residues, ofNats-residues, residues-cong}
-use Rattle.product.specs.Toeplitz.{toeplitz, withToeplitz, Matrix, Rows}
+use Rattle.product.specs.Toeplitz.{toeplitz, withToeplitz, Matrix}
 use Rattle.product.specs.Halves.{folded, rowDifference}
 use Rattle.product.proofs.Halving.{from, toeplitz-cong, upper, lower}
 
@@ -86,13 +86,6 @@ lower-matrix h acc row v t part m e l = record {
   vector-long = first-long h v (m .vector-long);
 }
 
-pub rows-of : (n : ℕ) {acc row v : List ℕ} → n % 8 ≡ 0 → n ≤ 512 → Matrix n acc row v → Rows acc row v
-rows-of n {acc} e s m = record {
-  matrix = record { sum-long = refl; row-long = m .row-long ∙ ap (λ (k : ℕ). 2 * k) (sym (m .sum-long)); vector-long = m .vector-long ∙ sym (m .sum-long) };
-  whole = ap (λ (k : ℕ). k % 8) (m .sum-long) ∙ e;
-  short = rw (m .sum-long) s;
-}
-
 -- ---- what the parts hold
 
 -- Entry k of such a sum.
@@ -114,6 +107,27 @@ nothing-at none zero zero = refl
 nothing-at none zero (suc k) = refl
 nothing-at none (suc h) zero = refl
 nothing-at none (suc h) (suc k) = nothing-at none h k
+
+-- Where there was nothing, the product alone.
+from-nothing : (h : ℕ) (none row v : List ℕ) {ys : List ℕ} → none ≡ replicate h 0 → ys ≡ withToeplitz none row v → {k : ℕ} → k < h
+    → Cong 65536 (ofNats ys k) (toeplitz h (ofNats row) (ofNats v) k)
+from-nothing h none row v en e {k} hk =
+    cong-trans (with-at h none row v (zeros-long en) e hk)
+    (cong-of-eq
+    (ap (λ (x : ℕ). pos x +ℤ toeplitz h (ofNats row) (ofNats v) k) (ap (λ (l : List ℕ). getD l k 0) en ∙ nothing-at 0 h k)
+    ∙ +ℤ-idl (toeplitz h (ofNats row) (ofNats v) k)))
+
+-- A product that is summed up apart, from nothing, and then added.
+pub sums-added : (h : ℕ) (acc none row v : List ℕ) {sums : List ℕ} → length acc ≡ h → none ≡ replicate h 0 → sums ≡ withToeplitz none row v
+    → added acc sums ≡ withToeplitz acc row v
+unfolding withToeplitz
+sums-added h acc none row v {sums} l en e =
+    residues-cong some (length acc) (plus (ofNats acc) (ofNats sums)) (plus (ofNats acc) (toeplitz (length acc) (ofNats row) (ofNats v)))
+    (λ k hk.
+    let inside : k < h = omega arith in
+    cong-add (cong-refl (ofNats acc k))
+    (cong-trans (from-nothing h none row v en e inside)
+    (cong-of-eq (ap (λ (n : ℕ). toeplitz n (ofNats row) (ofNats v) k) (sym l)))))
 
 -- ---- the whole
 
@@ -172,13 +186,9 @@ halves-joined h acc row v {both} {none} {mid} {above} {t} {below} {b} {t'} {b'} 
     in
     let same : h + h + h - h ≡ h + h = omega arith in
     let mid-at : (k : ℕ) → k < h → Cong 65536 (ofNats mid k) (toeplitz h (from h r) (ofNats both) k) =
-    λ k hk. cong-trans (with-at h none (take (h + h) (drop h row)) both (zeros-long en) (em ∙ ap (λ (n : ℕ). withToeplitz none (take n (drop h row)) both) same) hk)
-    (cong-trans
-    (cong-of-eq
-    (ap (λ (x : ℕ). pos x +ℤ toeplitz h (ofNats (take (h + h) (drop h row))) (ofNats both) k) (ap (λ (l : List ℕ). getD l k 0) en ∙ nothing-at 0 h k)
-    ∙ +ℤ-idl (toeplitz h (ofNats (take (h + h) (drop h row))) (ofNats both) k)))
+    λ k hk. cong-trans (from-nothing h none (take (h + h) (drop h row)) both en (em ∙ ap (λ (n : ℕ). withToeplitz none (take n (drop h row)) both) same) hk)
     (toeplitz-cong h (ofNats (take (h + h) (drop h row))) (from h r) (ofNats both) (ofNats both)
-    (λ i hi. cong-of-eq (window-at h (h + h) row hi)) (λ i _. cong-refl (ofNats both i)) hk))
+    (λ i hi. cong-of-eq (window-at h (h + h) row hi)) (λ i _. cong-refl (ofNats both i)) hk)
     in
     let sums : Poly = plus (ofNats acc) (toeplitz (h + h) r f) in
     let top : added t mid ≡ residues 65536 h sums =

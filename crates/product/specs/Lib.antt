@@ -1,5 +1,4 @@
 -- What the contracts of `product` say.
 pub mod Dots
-pub mod Terms
 pub mod Toeplitz
 pub mod Halves

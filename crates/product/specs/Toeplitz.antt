@@ -1,7 +1,7 @@
 -- Products of Toeplitz matrices with vectors, of which a product of polynomials is one, modulo 2^16. Rests on ring's Poly.
 use mathlib.Core.Path.{_≡_}
 use mathlib.Core.List.{List}
-use Prim.Native.Nat.{ℕ, _+_, _-_, _*_, _%_, _≤_}
+use Prim.Native.Nat.{ℕ, _+_, _-_, _*_}
 use lib.IntN.{_*ℤ_}
 use lib.ListN.{length}
 use Rattle.ring.specs.Poly.{Poly, sum, plus, ofNats, residues}
@@ -19,9 +19,3 @@ pub record Matrix (n : ℕ) (acc row v : List ℕ) : Type 0 where
   pub sum-long : length acc ≡ n
   pub row-long : length row ≡ 2 * n
   pub vector-long : length v ≡ n
-
--- The same of a multiple of eight up to 512.
-pub record Rows (acc row v : List ℕ) : Type 0 where
-  pub matrix : Matrix (length acc) acc row v
-  pub whole : length acc % 8 ≡ 0
-  pub short : length acc ≤ 512

@@ -5,16 +5,11 @@ ghost use Prim.Native.Nat.{_+_, _*_, _≤_};
 ghost use lib.ListN.{length, replicate};
 ghost use Rattle.product.specs.Toeplitz.{Matrix, withToeplitz};
 ghost use Rattle.product.specs.Halves.{folded, rowDifference};
-use crate::rows::toeplitz_rows;
+use crate::rows::toeplitz_64;
+use crate::rows::zeros_64;
 use ring::poly::add;
 use ring::poly::difference;
 use ring::poly::sum;
-
-fn zeros_64() -> [u16; 64]
-    ensures { λ r. ⌜ r ≡ replicate 64 0 ⌝ }
-{
-    [0; 64]
-}
 
 fn zeros_128() -> [u16; 128]
     ensures { λ r. ⌜ r ≡ replicate 128 0 ⌝ }
@@ -68,11 +63,11 @@ pub fn toeplitz_128(acc: &mut [u16], row: &[u16], v: &[u16])
     let mut middle = zeros_64();
     let mut part = zeros_128();
     fold(v, &mut both);
-    toeplitz_rows(&mut middle, &row[64..192], &both);
+    toeplitz_64(&mut middle, &row[64..192], &both);
     row_difference(row, 0, 64, &mut part);
-    toeplitz_rows(&mut acc[..64], &part, &v[64..]);
+    toeplitz_64(&mut acc[..64], &part, &v[64..]);
     row_difference(row, 128, 64, &mut part);
-    toeplitz_rows(&mut acc[64..], &part, &v[..64]);
+    toeplitz_64(&mut acc[64..], &part, &v[..64]);
     add(&mut acc[..64], &middle);
     add(&mut acc[64..], &middle);
 }

@@ -3,9 +3,10 @@ mod halves;
 mod rows;
 
 ghost use mathlib.Core.Path.{_≡_};
+ghost use lib.ListN.{length};
 ghost use Rattle.ring.specs.Coefficients.{withProduct};
-ghost use Rattle.product.specs.Dots.{Eights, Vectors, withDot};
-ghost use Rattle.product.specs.Toeplitz.{Rows, withToeplitz};
+ghost use Rattle.product.specs.Dots.{Factors, Vectors, withDot};
+ghost use Rattle.product.specs.Toeplitz.{Matrix, withToeplitz};
 use halves::toeplitz_128;
 use halves::toeplitz_256;
 use halves::toeplitz_512;
@@ -18,7 +19,7 @@ fn zeros() -> [u16; 1024] {
 
 // Adds the product of a Toeplitz matrix with v, by halves down to 64 rows where there are 128, 256 or 512 of them.
 fn toeplitz(acc: &mut [u16], row: &[u16], v: &[u16])
-    requires { ⌜ Rows (now acc) (now row) (now v) ⌝ }
+    requires { ⌜ Matrix (length (now acc)) (now acc) (now row) (now v) ⌝ }
     ensures { λ _. ⌜ now (acc .exit) ≡ withToeplitz (now (acc .entry)) (now (row .entry)) (now (v .entry)) ⌝ }
 {
     let n = acc.len();
@@ -39,7 +40,7 @@ fn toeplitz(acc: &mut [u16], row: &[u16], v: &[u16])
 
 // acc + a·b.
 fn multiply(acc: &mut [u16], a: &[u16], b: &[u16])
-    requires { ⌜ Eights (now acc) (now a) (now b) ⌝ }
+    requires { ⌜ Factors (now acc) (now a) (now b) ⌝ }
     ensures { λ _. ⌜ now (acc .exit) ≡ withProduct (now (acc .entry)) (now (a .entry)) (now (b .entry)) ⌝ }
 {
     let end = 2 * acc.len();

@@ -2,12 +2,11 @@
 use mathlib.Core.Path.{_≡_, refl, sym, ap, ap₂, _∙_}
 use mathlib.Core.List.{List}
 use Prim.Native.Nat.{ℕ, suc, _+_, _-_, _*_, _^_, _≤_, _<_}
-use native.Mathlib.Nat.{le-refl, lt-of-le-of-lt, mul-le-mul, mul-comm, suc-mul, min-eq-left}
+use native.Mathlib.Nat.{le-refl, lt-of-le-of-lt, mul-le-mul, mul-comm, suc-mul}
 use native.Mathlib.Numerals.{add-one}
 use native.Mathlib.Omega.{arith}
 use lib.IntN.{ℤ, pos, natAbs, _+ℤ_, _*ℤ_}
-use lib.ListN.{length, take, drop, replicate, length-take, length-drop}
-use lib.Seq.{getD-take, getD-drop}
+use lib.ListN.{length, replicate}
 use lib.Signed.{mag}
 use mir.Syntax.{w16, w32}
 use mir.Val.{SFits, toZ, ofZ}
@@ -21,6 +20,7 @@ use Rattle.ring.proofs.Integers.{natAbs-add, natAbs-mul}
 use Rattle.ring.proofs.Sums.{natAbs-sum}
 use Rattle.ring.proofs.Sizes.{fits-abs, abs-fits, le-largest, largest-le}
 use Rattle.product.specs.Toeplitz.{toeplitz}
+use Rattle.product.proofs.Columns.{reached, reached-at}
 use Rattle.signed_product.specs.Toeplitz.{Bounded, withToeplitz}
 use Rattle.signed_product.proofs.Small.{terms-small, part-size}
 
@@ -68,32 +68,19 @@ pub columns-all : (r v : Poly) → tabulate 64 (columns r v 64) ≡ tabulate 64 
 unfolding columns toeplitz
 columns-all r v = refl
 
--- The part of a row that column i reaches.
-abbrev pub reached : ℕ → ℕ → List ℤ → List ℤ
-reached n i row = take (2 * n - i - (n - i)) (drop (n - i) row)
-
-pub column-long : (n i : ℕ) (row : List ℤ) → i < n → length row ≡ 2 * n → length (reached n i row) ≡ n
-column-long n i row h s =
-    let whole : 2 * n - i - (n - i) ≡ n = omega arith in
-    let rest : n ≤ length row - (n - i) = omega arith in
-    rw whole (simp (length-take, length-drop) (min-eq-left rest))
-
 -- What the code adds to acc is a column.
 pub column-more : (n i : ℕ) (row v acc : List ℤ) {l : ℕ} {a : ℤ} → n ≡ 64 → l ≡ 64 → i < 64
     → acc ≡ tabulate 64 (columns (ofInts row) (ofInts v) i) → a ≡ ofInts v i
     → tabulate l (λ k. ofInts acc k +ℤ a *ℤ ofInts (reached n i row) k) ≡ tabulate 64 (columns (ofInts row) (ofInts v) (i + 1))
 unfolding columns sum
 column-more n i row v acc {l} {a} same long turn is e =
-    let m = 2 * n - i - (n - i) in
-    let o = n - i in
     ap (λ (t : ℕ). tabulate t (λ k. ofInts acc k +ℤ a *ℤ ofInts (reached n i row) k)) long
     ∙ tabulate-ext 64 (λ k. ofInts acc k +ℤ a *ℤ ofInts (reached n i row) k) (columns (ofInts row) (ofInts v) (i + 1))
     (λ k hk.
-    let inside : k < m = omega arith in
-    let place : o + k ≡ 64 - i + k = omega arith in
+    let place : n - i + k ≡ 64 - i + k = omega arith in
     ap₂ _+ℤ_
     (ap (λ (l : List ℤ). ofInts l k) is ∙ tabulate-at 64 (columns (ofInts row) (ofInts v) i) k (pos 0) hk)
-    (ap₂ _*ℤ_ e (getD-take m (drop o row) k (pos 0) inside ∙ getD-drop o row k (pos 0) ∙ ap (ofInts row) place))
+    (ap₂ _*ℤ_ e (reached-at n i row k (pos 0) (omega arith) (omega arith) ∙ ap (ofInts row) place))
     ∙ ap (λ (j : ℕ). columns (ofInts row) (ofInts v) j k) (sym (add-one i)))
 
 -- ---- sizes of columns

@@ -68,7 +68,6 @@ vectors-of P W {acc} {f} {s} e a b =
     record {
       first = a ∙ ap (λ (k : ℕ). P .l * k) (sym e);
       second = b ∙ ap (λ (k : ℕ). P .l * k) (sym e);
-      whole = omega (arith, W .eights);
       short = omega (arith, W .short);
       few = W .few;
     }

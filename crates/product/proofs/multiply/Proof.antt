@@ -57,11 +57,7 @@ toeplitz-requires c κs =
     let zeros : length (c .before .before .before .before .before .zeros .result) ≡ 1024 = search needs in
     let short : length (now (a .acc)) ≤ 512 = c .before .before .before .before .before .before .before .before .before .pre .short in
     let room : length (c .before .before .before .double .last .1 .0 ++ drop (2 * length (now (a .acc))) (c .before .before .before .before .before .zeros .result)) ≡ 1024 = length-front (c .before .before .before .before .before .zeros .result) (c .before .before .before .double .last .1 .0) (2 * length (now (a .acc))) (c .before .before .before .double .kept .1 .0) ∙ zeros in
-    record {
-      matrix = record { sum-long = refl; row-long = length-take-le (2 * length (now (a .acc))) _ (omega arith); vector-long = c .before .before .before .before .before .before .before .before .before .pre .first };
-      whole = c .before .before .before .before .before .before .before .before .before .pre .whole;
-      short = short;
-    }
+    record { sum-long = refl; row-long = length-take-le (2 * length (now (a .acc))) _ (omega arith); vector-long = c .before .before .before .before .before .before .before .before .before .pre .first }
 
 same-length : tie.Need-same-length
 same-length c = search needs

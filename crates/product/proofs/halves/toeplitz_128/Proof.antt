@@ -8,7 +8,7 @@ use borrow.Author.Needs.{needs}
 use denote.Ref.{now}
 use lib.ListN.{length, drop}
 use Rattle.product.specs.Halves.{folded, rowDifference}
-use Rattle.product.proofs.Joining.{zeros-long, putRest, first-long, rest-long, front-long, replaced-long, upper-matrix, lower-matrix, rows-of, halves-joined}
+use Rattle.product.proofs.Joining.{zeros-long, putRest, first-long, rest-long, front-long, replaced-long, upper-matrix, lower-matrix, halves-joined}
 use Rattle.product.proofs.halves.toeplitz_128.Statement.{statement}
 use Rattle.product.proofs.halves.toeplitz_128.Tie as tie
 
@@ -16,15 +16,15 @@ use Rattle.product.proofs.halves.toeplitz_128.Tie as tie
 part-long : (c : tie.After-row-difference) → length (c .row-difference .last .1 .1 .1 .0) ≡ 128
 part-long c = c .row-difference .kept .1 .1 .1 .0 ∙ zeros-long (c .before .before .before .before .before .before .before .before .before .before .zeros-128 .ensures)
 
-middle-long : (c : tie.After-toeplitz-rows) → length (c .toeplitz-rows .last .0) ≡ 64
-middle-long c = c .toeplitz-rows .kept .0 ∙ zeros-long (c .before .before .before .before .before .before .before .before .zeros-642 .ensures)
+middle-long : (c : tie.After-toeplitz-64) → length (c .toeplitz-64 .last .0) ≡ 64
+middle-long c = c .toeplitz-64 .kept .0 ∙ zeros-long (c .before .before .before .before .before .before .before .before .zeros-642 .ensures)
 
 -- The sum after both products of its halves.
-abbrev halves : tie.After-toeplitz-rows3 → List ℕ
-halves c = putRest 64 (c .toeplitz-rows3 .last .0) (c .before .before .before .before .before .before .before .before .before .toeplitz-rows2 .last .0 ++ drop 64 (now (c .before .before .before .before .before .before .before .before .before .before .before .before .before .before .before .before .before .before .before .before .before .before .before .before .before .before .before .before .before .before .args .acc)))
+abbrev halves : tie.After-toeplitz-643 → List ℕ
+halves c = putRest 64 (c .toeplitz-643 .last .0) (c .before .before .before .before .before .before .before .before .before .toeplitz-642 .last .0 ++ drop 64 (now (c .before .before .before .before .before .before .before .before .before .before .before .before .before .before .before .before .before .before .before .before .before .before .before .before .before .before .before .before .before .before .args .acc)))
 
-halves-long : (c : tie.After-toeplitz-rows3) → length (halves c) ≡ 128
-halves-long c = replaced-long 64 (now (c .before .before .before .before .before .before .before .before .before .before .before .before .before .before .before .before .before .before .before .before .before .before .before .before .before .before .before .before .before .before .args .acc)) (c .before .before .before .before .before .before .before .before .before .toeplitz-rows2 .last .0) (c .toeplitz-rows3 .last .0) (c .before .before .before .before .before .before .before .before .before .before .before .before .before .before .before .before .before .before .before .before .before .before .before .before .before .before .before .before .before .before .pre .sum-long) (c .before .before .before .before .before .before .before .before .before .toeplitz-rows2 .kept .0) (c .toeplitz-rows3 .kept .0)
+halves-long : (c : tie.After-toeplitz-643) → length (halves c) ≡ 128
+halves-long c = replaced-long 64 (now (c .before .before .before .before .before .before .before .before .before .before .before .before .before .before .before .before .before .before .before .before .before .before .before .before .before .before .before .before .before .before .args .acc)) (c .before .before .before .before .before .before .before .before .before .toeplitz-642 .last .0) (c .toeplitz-643 .last .0) (c .before .before .before .before .before .before .before .before .before .before .before .before .before .before .before .before .before .before .before .before .before .before .before .before .before .before .before .before .before .before .pre .sum-long) (c .before .before .before .before .before .before .before .before .before .toeplitz-642 .kept .0) (c .toeplitz-643 .kept .0)
 
 -- The same with the middle product in its upper half.
 abbrev whole : tie.After-add → List ℕ
@@ -48,23 +48,23 @@ slice-aggregate-fold c = search needs
 fold-requires : tie.Need-fold-requires
 fold-requires c κs = search needs
 
-slice-aggregate-toeplitz-rows : tie.Need-slice-aggregate-toeplitz-rows
-slice-aggregate-toeplitz-rows c = search needs
+slice-aggregate-toeplitz-64 : tie.Need-slice-aggregate-toeplitz-64
+slice-aggregate-toeplitz-64 c = search needs
 
-sub-toeplitz-rows : tie.Need-sub-toeplitz-rows
-sub-toeplitz-rows c = search needs
+sub-toeplitz-64 : tie.Need-sub-toeplitz-64
+sub-toeplitz-64 c = search needs
 
-part-toeplitz-rows-start : tie.Need-part-toeplitz-rows-start
-part-toeplitz-rows-start c = search needs
+part-toeplitz-64-start : tie.Need-part-toeplitz-64-start
+part-toeplitz-64-start c = search needs
 
-part-toeplitz-rows-end : tie.Need-part-toeplitz-rows-end
-part-toeplitz-rows-end c = search needs
+part-toeplitz-64-end : tie.Need-part-toeplitz-64-end
+part-toeplitz-64-end c = search needs
 
-slice-aggregate-toeplitz-rows-2 : tie.Need-slice-aggregate-toeplitz-rows-2
-slice-aggregate-toeplitz-rows-2 c = search needs
+slice-aggregate-toeplitz-64-2 : tie.Need-slice-aggregate-toeplitz-64-2
+slice-aggregate-toeplitz-64-2 c = search needs
 
-toeplitz-rows-requires : tie.Need-toeplitz-rows-requires
-toeplitz-rows-requires c κs = search needs
+toeplitz-64-requires : tie.Need-toeplitz-64-requires
+toeplitz-64-requires c κs = search needs
 
 slice-aggregate-row-difference : tie.Need-slice-aggregate-row-difference
 slice-aggregate-row-difference c = search needs
@@ -72,26 +72,26 @@ slice-aggregate-row-difference c = search needs
 row-difference-requires : tie.Need-row-difference-requires
 row-difference-requires c κs = search needs
 
-slice-relend-prefix-toeplitz-rows : tie.Need-slice-relend-prefix-toeplitz-rows
-slice-relend-prefix-toeplitz-rows c = search needs
+slice-relend-prefix-toeplitz-64 : tie.Need-slice-relend-prefix-toeplitz-64
+slice-relend-prefix-toeplitz-64 c = search needs
 
-slice-aggregate-toeplitz-rows-3 : tie.Need-slice-aggregate-toeplitz-rows-3
-slice-aggregate-toeplitz-rows-3 c = sym (first-long 64 (now (c .before .before .before .before .before .before .before .before .before .before .before .before .before .before .before .before .before .before .args .acc)) (c .before .before .before .before .before .before .before .before .before .before .before .before .before .before .before .before .before .before .pre .sum-long))
+slice-aggregate-toeplitz-64-3 : tie.Need-slice-aggregate-toeplitz-64-3
+slice-aggregate-toeplitz-64-3 c = sym (first-long 64 (now (c .before .before .before .before .before .before .before .before .before .before .before .before .before .before .before .before .before .before .args .acc)) (c .before .before .before .before .before .before .before .before .before .before .before .before .before .before .before .before .before .before .pre .sum-long))
 
-slice-aggregate-toeplitz-rows-4 : tie.Need-slice-aggregate-toeplitz-rows-4
-slice-aggregate-toeplitz-rows-4 c = search needs
+slice-aggregate-toeplitz-64-4 : tie.Need-slice-aggregate-toeplitz-64-4
+slice-aggregate-toeplitz-64-4 c = search needs
 
-sub-toeplitz-rows-2 : tie.Need-sub-toeplitz-rows-2
-sub-toeplitz-rows-2 c = search needs
+sub-toeplitz-64-2 : tie.Need-sub-toeplitz-64-2
+sub-toeplitz-64-2 c = search needs
 
-part-toeplitz-rows-start-2 : tie.Need-part-toeplitz-rows-start-2
-part-toeplitz-rows-start-2 c = search needs
+part-toeplitz-64-start-2 : tie.Need-part-toeplitz-64-start-2
+part-toeplitz-64-start-2 c = search needs
 
-part-toeplitz-rows-end-2 : tie.Need-part-toeplitz-rows-end-2
-part-toeplitz-rows-end-2 c = search needs
+part-toeplitz-64-end-2 : tie.Need-part-toeplitz-64-end-2
+part-toeplitz-64-end-2 c = search needs
 
-toeplitz-rows-requires-2 : tie.Need-toeplitz-rows-requires-2
-toeplitz-rows-requires-2 c κs = rows-of 64 refl (omega arith) (upper-matrix 64 _ _ _ _ (c .before .before .before .before .before .before .before .before .before .before .before .before .before .before .before .before .before .before .before .before .pre) (part-long (c .before .before .before .before)))
+toeplitz-64-requires-2 : tie.Need-toeplitz-64-requires-2
+toeplitz-64-requires-2 c κs = upper-matrix 64 _ _ _ _ (c .before .before .before .before .before .before .before .before .before .before .before .before .before .before .before .before .before .before .before .before .pre) (part-long (c .before .before .before .before))
 
 slice-aggregate-row-difference-2 : tie.Need-slice-aggregate-row-difference-2
 slice-aggregate-row-difference-2 c = search needs
@@ -99,23 +99,23 @@ slice-aggregate-row-difference-2 c = search needs
 row-difference-requires-2 : tie.Need-row-difference-requires-2
 row-difference-requires-2 c κs = search needs
 
-sub-toeplitz-rows-3 : tie.Need-sub-toeplitz-rows-3
-sub-toeplitz-rows-3 c = search needs
+sub-toeplitz-64-3 : tie.Need-sub-toeplitz-64-3
+sub-toeplitz-64-3 c = search needs
 
-part-toeplitz-rows-start-3 : tie.Need-part-toeplitz-rows-start-3
-part-toeplitz-rows-start-3 c = search needs
+part-toeplitz-64-start-3 : tie.Need-part-toeplitz-64-start-3
+part-toeplitz-64-start-3 c = search needs
 
-part-toeplitz-rows-end-3 : tie.Need-part-toeplitz-rows-end-3
-part-toeplitz-rows-end-3 c = search needs
+part-toeplitz-64-end-3 : tie.Need-part-toeplitz-64-end-3
+part-toeplitz-64-end-3 c = search needs
 
-slice-aggregate-toeplitz-rows-5 : tie.Need-slice-aggregate-toeplitz-rows-5
-slice-aggregate-toeplitz-rows-5 c = search needs
+slice-aggregate-toeplitz-64-5 : tie.Need-slice-aggregate-toeplitz-64-5
+slice-aggregate-toeplitz-64-5 c = search needs
 
-slice-aggregate-toeplitz-rows-6 : tie.Need-slice-aggregate-toeplitz-rows-6
-slice-aggregate-toeplitz-rows-6 c = sym (first-long 64 (now (c .before .before .before .before .before .before .before .before .before .before .before .before .before .before .before .before .before .before .before .before .before .before .before .before .before .before .before .before .before .args .v)) (c .before .before .before .before .before .before .before .before .before .before .before .before .before .before .before .before .before .before .before .before .before .before .before .before .before .before .before .before .before .pre .vector-long))
+slice-aggregate-toeplitz-64-6 : tie.Need-slice-aggregate-toeplitz-64-6
+slice-aggregate-toeplitz-64-6 c = sym (first-long 64 (now (c .before .before .before .before .before .before .before .before .before .before .before .before .before .before .before .before .before .before .before .before .before .before .before .before .before .before .before .before .before .args .v)) (c .before .before .before .before .before .before .before .before .before .before .before .before .before .before .before .before .before .before .before .before .before .before .before .before .before .before .before .before .before .pre .vector-long))
 
-toeplitz-rows-requires-3 : tie.Need-toeplitz-rows-requires-3
-toeplitz-rows-requires-3 c κs = rows-of 64 refl (omega arith) (lower-matrix 64 _ _ _ (c .before .before .before .before .before .before .before .before .toeplitz-rows2 .last .0) _ (c .before .before .before .before .before .before .before .before .before .before .before .before .before .before .before .before .before .before .before .before .before .before .before .before .before .before .before .before .before .pre) (c .before .before .before .before .before .before .before .before .toeplitz-rows2 .kept .0) (c .before .before .before .before .row-difference2 .kept .1 .1 .1 .0 ∙ part-long (c .before .before .before .before .before .before .before .before .before .before .before .before .before)))
+toeplitz-64-requires-3 : tie.Need-toeplitz-64-requires-3
+toeplitz-64-requires-3 c κs = lower-matrix 64 _ _ _ (c .before .before .before .before .before .before .before .before .toeplitz-642 .last .0) _ (c .before .before .before .before .before .before .before .before .before .before .before .before .before .before .before .before .before .before .before .before .before .before .before .before .before .before .before .before .before .pre) (c .before .before .before .before .before .before .before .before .toeplitz-642 .kept .0) (c .before .before .before .before .row-difference2 .kept .1 .1 .1 .0 ∙ part-long (c .before .before .before .before .before .before .before .before .before .before .before .before .before))
 
 slice-relend-prefix-add : tie.Need-slice-relend-prefix-add
 slice-relend-prefix-add c = omega (arith, halves-long (c .before .before))
@@ -151,9 +151,9 @@ returns : tie.Need-returns
 returns c =
     let a = c .before .before .before .before .before .before .before .before .before .before .before .before .before .before .before .before .before .before .before .before .before .before .before .before .before .before .before .before .before .before .before .before .before .before .before .before .before .before .before .before .before .before .args in
     halves-joined 64 (now (a .acc)) (now (a .row)) (now (a .v)) (c .before .before .before .before .before .before .before .before .before .before .before .before .before .before .before .before .before .before .before .before .before .before .before .before .before .before .before .before .before .before .before .before .before .before .before .before .before .before .before .before .before .before .pre) (c .before .before .before .before .before .before .before .before .before .before .before .before .before .before .before .before .before .before .before .before .before .before .before .before .before .before .before .before .before .before .before .before .before .before .before .before .before .zeros-642 .ensures)
-    (c .before .before .before .before .before .before .before .before .before .before .before .before .before .before .before .before .before .before .before .before .before .before .before .before .before .before .before .before .before .before .before .before .before .before .fold .ensures ∙ ap (λ (m : ℕ). folded m (now (a .v))) (zeros-long (c .before .before .before .before .before .before .before .before .before .before .before .before .before .before .before .before .before .before .before .before .before .before .before .before .before .before .before .before .before .before .before .before .before .before .before .before .before .before .zeros-64 .ensures))) (c .before .before .before .before .before .before .before .before .before .before .before .before .before .before .before .before .before .before .before .before .before .before .before .before .before .before .before .before .before .toeplitz-rows .ensures)
-    (c .before .before .before .before .before .before .before .before .before .before .before .before .before .before .before .before .before .before .before .before .before .before .before .before .before .before .row-difference .ensures ∙ ap (λ (m : ℕ). rowDifference 0 64 m (now (a .row))) (zeros-long (c .before .before .before .before .before .before .before .before .before .before .before .before .before .before .before .before .before .before .before .before .before .before .before .before .before .before .before .before .before .before .before .before .before .before .before .before .zeros-128 .ensures))) (c .before .before .before .before .before .before .before .before .before .before .before .before .before .before .before .before .before .before .before .before .before .toeplitz-rows2 .ensures)
-    (c .before .before .before .before .before .before .before .before .before .before .before .before .before .before .before .before .before .row-difference2 .ensures ∙ ap (λ (m : ℕ). rowDifference 128 64 m (now (a .row))) (part-long (c .before .before .before .before .before .before .before .before .before .before .before .before .before .before .before .before .before .before .before .before .before .before .before .before .before .before))) (c .before .before .before .before .before .before .before .before .before .before .before .before .toeplitz-rows3 .ensures)
+    (c .before .before .before .before .before .before .before .before .before .before .before .before .before .before .before .before .before .before .before .before .before .before .before .before .before .before .before .before .before .before .before .before .before .before .fold .ensures ∙ ap (λ (m : ℕ). folded m (now (a .v))) (zeros-long (c .before .before .before .before .before .before .before .before .before .before .before .before .before .before .before .before .before .before .before .before .before .before .before .before .before .before .before .before .before .before .before .before .before .before .before .before .before .before .zeros-64 .ensures))) (c .before .before .before .before .before .before .before .before .before .before .before .before .before .before .before .before .before .before .before .before .before .before .before .before .before .before .before .before .before .toeplitz-64 .ensures)
+    (c .before .before .before .before .before .before .before .before .before .before .before .before .before .before .before .before .before .before .before .before .before .before .before .before .before .before .row-difference .ensures ∙ ap (λ (m : ℕ). rowDifference 0 64 m (now (a .row))) (zeros-long (c .before .before .before .before .before .before .before .before .before .before .before .before .before .before .before .before .before .before .before .before .before .before .before .before .before .before .before .before .before .before .before .before .before .before .before .before .zeros-128 .ensures))) (c .before .before .before .before .before .before .before .before .before .before .before .before .before .before .before .before .before .before .before .before .before .toeplitz-642 .ensures)
+    (c .before .before .before .before .before .before .before .before .before .before .before .before .before .before .before .before .before .row-difference2 .ensures ∙ ap (λ (m : ℕ). rowDifference 128 64 m (now (a .row))) (part-long (c .before .before .before .before .before .before .before .before .before .before .before .before .before .before .before .before .before .before .before .before .before .before .before .before .before .before))) (c .before .before .before .before .before .before .before .before .before .before .before .before .toeplitz-643 .ensures)
     (c .before .before .before .before .before .before .before .add .ensures) (c .before .before .add2 .ensures)
 
 pub toeplitz-128-spec : {M : Type 1} → statement M
@@ -165,29 +165,29 @@ toeplitz-128-spec =
     zeros-128-requires
     slice-aggregate-fold
     fold-requires
-    slice-aggregate-toeplitz-rows
-    sub-toeplitz-rows
-    part-toeplitz-rows-start
-    part-toeplitz-rows-end
-    slice-aggregate-toeplitz-rows-2
-    toeplitz-rows-requires
+    slice-aggregate-toeplitz-64
+    sub-toeplitz-64
+    part-toeplitz-64-start
+    part-toeplitz-64-end
+    slice-aggregate-toeplitz-64-2
+    toeplitz-64-requires
     slice-aggregate-row-difference
     row-difference-requires
-    slice-relend-prefix-toeplitz-rows
-    slice-aggregate-toeplitz-rows-3
-    slice-aggregate-toeplitz-rows-4
-    sub-toeplitz-rows-2
-    part-toeplitz-rows-start-2
-    part-toeplitz-rows-end-2
-    toeplitz-rows-requires-2
+    slice-relend-prefix-toeplitz-64
+    slice-aggregate-toeplitz-64-3
+    slice-aggregate-toeplitz-64-4
+    sub-toeplitz-64-2
+    part-toeplitz-64-start-2
+    part-toeplitz-64-end-2
+    toeplitz-64-requires-2
     slice-aggregate-row-difference-2
     row-difference-requires-2
-    sub-toeplitz-rows-3
-    part-toeplitz-rows-start-3
-    part-toeplitz-rows-end-3
-    slice-aggregate-toeplitz-rows-5
-    slice-aggregate-toeplitz-rows-6
-    toeplitz-rows-requires-3
+    sub-toeplitz-64-3
+    part-toeplitz-64-start-3
+    part-toeplitz-64-end-3
+    slice-aggregate-toeplitz-64-5
+    slice-aggregate-toeplitz-64-6
+    toeplitz-64-requires-3
     slice-relend-prefix-add
     slice-aggregate-add
     slice-aggregate-add-2

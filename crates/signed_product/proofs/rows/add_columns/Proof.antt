@@ -8,7 +8,8 @@ use lib.IntN.{pos}
 use lib.ListN.{length, length-replicate}
 use Rattle.keccak.specs.Lists.{tabulate}
 use Rattle.ring.specs.Poly.{ofInts}
-use Rattle.signed_product.proofs.Columns.{word, columns, columns-none, columns-all, column-long, column-more, column-room}
+use Rattle.product.proofs.Columns.{column-long}
+use Rattle.signed_product.proofs.Columns.{word, columns, columns-none, columns-all, column-more, column-room}
 use Rattle.signed_product.proofs.rows.add_columns.Statement.{statement}
 use Rattle.signed_product.proofs.rows.add_columns.Tie as tie
 
