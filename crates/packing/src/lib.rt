@@ -5,6 +5,7 @@ ghost use Prim.Native.Nat.{_+_, _*_, _/_, _%_, _^_, _≤_, _<_, min};
 ghost use lib.ListN.{length, getD, take, drop};
 ghost use Rattle.keccak.specs.Lists.{value, digits};
 ghost use Rattle.bits.specs.Bits.{bytesFor, pack, unpack, lowBits};
+ghost use Rattle.packing.specs.Apart.{twoApart};
 use bits::low_bits;
 
 fn byte_or_zero(s: &[u8], i: usize) -> u8
@@ -66,22 +67,32 @@ fn word(s: &[u8]) -> u64
     join(s[0], s[1], s[2], s[3]) as u64 + 4294967296 * (join(s[4], s[5], s[6], s[7]) as u64)
 }
 
-// Digit j of x in base 2^w, at the place of digit j in base 2^16. A product moves it, since shifts by a variable cost more;
-// its factor is shifted down, since the compiler makes a shift of a product by 1 << n.
-fn widened(x: u64, w: u32, j: u32) -> u64
-    requires { ⌜ (w ≤ 16) × (j < 4) ⌝ }
-    ensures { λ r. ⌜ r ≡ x / 2 ^ (w * j) % 2 ^ w * 2 ^ (16 * j) ⌝ }
+// The first two digits of x in base 2^(2w), at places of 32 bits. A product moves the second, since shifts by a variable cost
+// more; its factor is shifted down, since the compiler makes a shift of a product by 1 << n.
+fn pairs(x: u64, w: u32) -> u64
+    requires { ⌜ w ≤ 16 ⌝ }
+    ensures { λ r. ⌜ r ≡ x % 2 ^ (2 * w) + x / 2 ^ (2 * w) % 2 ^ (2 * w) * 2 ^ 32 ⌝ }
 {
-    let at = w * j;
-    (x & (((1 << w) - 1) << at)) * ((1 << (16 * j)) >> at)
+    let two = 2 * w;
+    let mask = (1 << two) - 1;
+    (x & mask) + (x & (mask << two)) * ((1 << 32) >> two)
 }
 
-// The first four digits of x in base 2^w, as digits in base 2^16.
+// The first two digits of either half of x in base 2^w, at places of 16 bits.
+fn singles(x: u64, w: u32) -> u64
+    requires { ⌜ w ≤ 16 ⌝ }
+    ensures { λ r. ⌜ r ≡ twoApart w (x % 2 ^ 32) + twoApart w (x / 2 ^ 32) * 2 ^ 32 ⌝ }
+{
+    let masks = ((1 << w) - 1) * 4294967297;
+    (x & masks) + (x & (masks << w)) * (65536 >> w)
+}
+
+// The first four digits of x in base 2^w, as digits in base 2^16: first pairs of them are moved apart, then the two of each.
 fn spread(x: u64, w: u32) -> u64
     requires { ⌜ w ≤ 16 ⌝ }
     ensures { λ r. ⌜ r ≡ value 16 (digits w 4 x) ⌝ }
 {
-    widened(x, w, 0) + widened(x, w, 1) + widened(x, w, 2) + widened(x, w, 3)
+    singles(pairs(x, w), w)
 }
 
 // Writes the first four digits of x in base 2^w.
@@ -183,7 +194,7 @@ fn pack_each(w: u32, src: &[u16], dst: &mut [u8])
     }
 }
 
-// The w low bits of c, with a number above them; the factor 2^w is made as in `widened`.
+// The w low bits of c, with a number above them; the factor 2^w is made as in `pairs`.
 fn below(c: u16, w: u32, high: u64) -> u64
     requires { ⌜ (w ≤ 16) × (high < 2 ^ 48) ⌝ }
     ensures { λ r. ⌜ (r ≡ c % 2 ^ w + 2 ^ w * high) × (r < 65536 * (high + 1)) ⌝ }
