@@ -2,11 +2,11 @@
 use mathlib.Core.Path.{_≡_, sym, ap, ap₂, _∙_}
 use mathlib.Core.List.{List, _++_}
 use Prim.Native.Nat.{ℕ, _+_, _-_, _*_, _/_, _%_, _^_, _≤_, _<_}
-use native.Mathlib.Nat.{mul-add, mul-assoc, mul-le-mul-right, mod-lt, mod-eq-of-lt, lt-of-lt-of-le, one-mul}
+use native.Mathlib.Nat.{mul-add, mul-assoc, mod-lt, mod-eq-of-lt, lt-of-lt-of-le, one-mul}
 use native.Mathlib.Omega.{arith}
 use lib.Bits.{bitAnd, and-mask, and-high}
 use lib.ListN.{getD, drop}
-use lib.Pow.{mod-pow-add, pow-add, pow-lt, pow-pos, pow-mono, high-ones, ones-lt, mod-mod-pow, field, shl-exact, shl-lt, shl-shr, shr-shr}
+use lib.Pow.{mod-pow-add, pow-add, pow-lt, pow-pos, pow-mono, high-ones, ones-lt, mod-mod-pow, field, shl-exact, shl-shr, shr-shr}
 use lib.Seq.{getD-drop}
 use Rattle.keccak.specs.Lists.{tabulate, value, digits}
 use Rattle.keccak.proofs.Parts.{length-digits}
@@ -116,19 +116,9 @@ power-from w h =
     let e : 16 ≡ w + (16 - w) = omega arith in
     ap (λ (k : ℕ). 2 ^ k / 2 ^ (16 - w)) e ∙ power-down w (16 - w)
 
--- The place of digit j in base 2^w is not past its place in base 2^16.
-pub place-before : (w j : ℕ) → w ≤ 16 → w * j ≤ 16 * j
-place-before w j h = mul-le-mul-right j h
-
 -- A digit is below 2^16.
 pub digit-below : (w x : ℕ) → w ≤ 16 → x % 2 ^ w < 65536
 digit-below w x h = lt-of-lt-of-le (mod-lt x (pow-pos w)) (pow-mono h)
-
--- At its place in base 2^16, digit j is inside a word of 64 bits.
-pub digit-fits : (w j x : ℕ) → w ≤ 16 → j < 4 → x % 2 ^ w * 2 ^ (16 * j) < 2 ^ 64
-digit-fits w j x h less =
-    let room : w + 16 * j ≤ 64 = omega arith in
-    lt-of-lt-of-le (shl-lt w (16 * j) (mod-lt x (pow-pos w))) (pow-mono room)
 
 -- Four digits at their places in base 2^16.
 four-places : (f : ℕ → ℕ) → f 0 * 2 ^ (16 * 0) + f 1 * 2 ^ (16 * 1) + f 2 * 2 ^ (16 * 2) + f 3 * 2 ^ (16 * 3) ≡ value 16 (tabulate 4 f)

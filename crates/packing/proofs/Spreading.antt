@@ -1,12 +1,12 @@
 -- Four digits of a word that are moved apart by masks and products: first in pairs, then each. Assumes nothing.
-use mathlib.Core.Path.{_≡_, refl, sym, ap, ap₂, _∙_}
+use mathlib.Core.Path.{_≡_, sym, ap, ap₂, _∙_}
 use Prim.Native.Nat.{ℕ, _+_, _-_, _*_, _/_, _%_, _^_, _≤_, _<_}
 use native.Mathlib.Nat.{mul-zero, div-one, add-mul, mul-assoc, mul-comm, mod-lt, mod-eq-of-lt, lt-of-lt-of-le, div-add-mod'}
 use native.Mathlib.Omega.{arith}
 use lib.Bits.{bitAnd, and-mask, and-block, and-high}
 use lib.Pow.{pow-add, pow-pos, pow-mono, ones-lt, high-ones, shl-lt, field, mod-mod-pow, shr-shr}
 use Rattle.keccak.specs.Lists.{value, digits}
-use Rattle.bits.proofs.Words.{one-at, digit-moved, power-from, digit-below, four-widened}
+use Rattle.bits.proofs.Words.{one-at, digit-moved, power-from, four-widened}
 use Rattle.packing.specs.Apart.{twoApart}
 
 -- ---- pairs

@@ -1,7 +1,7 @@
 -- `packing::singles` meets its contract: the masks keep a digit of either half, and the factor moves both second ones.
 -- Assumes nothing.
-use mathlib.Core.Path.{_≡_, ap₂, _∙_}
-use Prim.Native.Nat.{_+_, _-_, _*_, _/_, _%_, _^_, _≤_, _<_}
+use mathlib.Core.Path.{ap₂, _∙_}
+use Prim.Native.Nat.{_+_, _/_, _%_, _^_, _≤_}
 use native.Mathlib.Omega.{arith}
 use borrow.Author.Needs.{needs}
 use lib.Pow.{pow-pos, pow-mono}
