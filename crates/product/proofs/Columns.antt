@@ -50,6 +50,23 @@ reached-at n i row k none h hk =
     let inside : k < m = omega arith in
     getD-take m (drop (n - i) row) k none inside ∙ getD-drop (n - i) row k none
 
+-- The part of a row that columns i and i + 1 reach, and its entry k.
+abbrev pub reachedTwo : {A : Type 0} → ℕ → ℕ → List A → List A
+reachedTwo n i row = take (2 * n - i - (n - 1 - i)) (drop (n - 1 - i) row)
+
+pub two-long : {A : Type 0} (n i : ℕ) (row : List A) → i < n → length row ≡ 2 * n → length (reachedTwo n i row) ≡ n + 1
+two-long n i row h s =
+    let whole : 2 * n - i - (n - 1 - i) ≡ n + 1 = omega arith in
+    let rest : n + 1 ≤ length row - (n - 1 - i) = omega arith in
+    rw whole (simp (length-take, length-drop) (min-eq-left rest))
+
+pub two-at : {A : Type 0} (n i : ℕ) (row : List A) (k : ℕ) (none : A) → i < n → k < n + 1
+    → getD (reachedTwo n i row) k none ≡ getD row (n - 1 - i + k) none
+two-at n i row k none h hk =
+    let m = 2 * n - i - (n - 1 - i) in
+    let inside : k < m = omega arith in
+    getD-take m (drop (n - 1 - i) row) k none inside ∙ getD-drop (n - 1 - i) row k none
+
 -- A column more.
 column-next : (n : ℕ) (f r v : Poly) (i k : ℕ) → columns n f r v (i + 1) k ≡ columns n f r v i k +ℤ v i *ℤ r (n - i + k)
 unfolding columns sum
@@ -69,3 +86,26 @@ column-more n f row xs acc i h e =
     (ap (λ (l : List ℕ). getD l k 0) e ∙ residues-at 65536 n (columns n f (ofNats row) (ofNats xs) i) hk)
     (cong-of-eq (ap pos (reached-at n i row k 0 h hk)))
     ∙ ap (residue 65536) (sym (column-next n f (ofNats row) (ofNats xs) i k)))
+
+-- What the code adds to acc is two columns.
+pub columns-more : (n : ℕ) (f : Poly) (row xs acc : List ℕ) (i : ℕ) → i + 1 < n
+    → acc ≡ residues 65536 n (columns n f (ofNats row) (ofNats xs) i)
+    → tabulate n (λ k. addTerm (addTerm (getD acc k 0) (getD xs i 0) (getD (reachedTwo n i row) (k + 1) 0)) (getD xs (i + 1) 0) (getD (reachedTwo n i row) k 0))
+    ≡ residues 65536 n (columns n f (ofNats row) (ofNats xs) (i + 2))
+unfolding residues
+columns-more n f row xs acc i h e =
+    let next : i + 1 + 1 ≡ i + 2 = omega arith in
+    tabulate-ext n
+    (λ k. addTerm (addTerm (getD acc k 0) (getD xs i 0) (getD (reachedTwo n i row) (k + 1) 0)) (getD xs (i + 1) 0) (getD (reachedTwo n i row) k 0))
+    (λ k. residue 65536 (columns n f (ofNats row) (ofNats xs) (i + 2) k))
+    (λ k hk.
+    let first : n - 1 - i + (k + 1) ≡ n - i + k = omega arith in
+    let second : n - 1 - i + k ≡ n - (i + 1) + k = omega arith in
+    term-more (getD xs (i + 1) 0) (columns n f (ofNats row) (ofNats xs) (i + 1) k)
+    (term-more (getD xs i 0) (columns n f (ofNats row) (ofNats xs) i k)
+    (ap (λ (l : List ℕ). getD l k 0) e ∙ residues-at 65536 n (columns n f (ofNats row) (ofNats xs) i) hk)
+    (cong-of-eq (ap pos (two-at n i row (k + 1) 0 (omega arith) (omega arith) ∙ ap (λ (j : ℕ). getD row j 0) first)))
+    ∙ ap (residue 65536) (sym (column-next n f (ofNats row) (ofNats xs) i k)))
+    (cong-of-eq (ap pos (two-at n i row k 0 (omega arith) (omega arith) ∙ ap (λ (j : ℕ). getD row j 0) second)))
+    ∙ ap (residue 65536) (sym (column-next n f (ofNats row) (ofNats xs) (i + 1) k))
+    ∙ ap (λ (j : ℕ). residue 65536 (columns n f (ofNats row) (ofNats xs) j k)) next)

@@ -2,7 +2,7 @@
 use mathlib.Core.Path.{_≡_, refl, sym, ap, ap₂, _∙_}
 use mathlib.Core.List.{List}
 use Prim.Native.Nat.{ℕ, suc, _+_, _-_, _*_, _^_, _≤_, _<_}
-use native.Mathlib.Nat.{le-refl, lt-of-le-of-lt, mul-le-mul, mul-comm, suc-mul}
+use native.Mathlib.Nat.{le-refl, lt-of-le-of-lt, mul-le-mul, mul-comm, mul-add, suc-mul}
 use native.Mathlib.Numerals.{add-one}
 use native.Mathlib.Omega.{arith}
 use lib.IntN.{ℤ, pos, natAbs, _+ℤ_, _*ℤ_}
@@ -15,13 +15,13 @@ use Rattle.keccak.specs.Lists.{tabulate}
 use Rattle.keccak.proofs.Entries.{tabulate-at, length-tabulate}
 use Rattle.bits.proofs.Filling.{tabulate-ext, tabulate-constant}
 use Rattle.ring.specs.Integers.{largest}
-use Rattle.ring.specs.Poly.{Poly, sum, plus, ofInts}
+use Rattle.ring.specs.Poly.{Poly, sum, ofInts}
 use Rattle.ring.proofs.Integers.{natAbs-add, natAbs-mul}
 use Rattle.ring.proofs.Sums.{natAbs-sum}
 use Rattle.ring.proofs.Sizes.{fits-abs, abs-fits, le-largest, largest-le}
 use Rattle.product.specs.Toeplitz.{toeplitz}
-use Rattle.product.proofs.Columns.{reached, reached-at}
-use Rattle.signed_product.specs.Toeplitz.{Bounded, withToeplitz}
+use Rattle.product.proofs.Columns.{reachedTwo, two-at}
+use Rattle.signed_product.specs.Toeplitz.{productOf, Bounded}
 use Rattle.signed_product.proofs.Small.{terms-small, part-size}
 
 -- ---- one term
@@ -33,9 +33,10 @@ term-fits x a b h = fits-abs w16 (a *ℤ b) (rw (natAbs-mul a b) (omega arith))
 pub sum-fits : (x a b : ℤ) → natAbs x + natAbs a * natAbs b < 2 ^ 15 → SFits w16 (x +ℤ a *ℤ b)
 sum-fits x a b h = fits-abs w16 (x +ℤ a *ℤ b) (omega (arith, natAbs-add x (a *ℤ b), natAbs-mul a b))
 
--- What adding a term of words gives, where they are y, p and q.
-pub read-term : {r x a b y p q : ℤ} → SFits w16 r → x ≡ y → a ≡ p → b ≡ q → r ≡ x +ℤ a *ℤ b → toZ w16 (ofZ w16 r) ≡ y +ℤ p *ℤ q
-read-term {r = r} f ex ea eb e = toZ-ofZ w16 r f ∙ e ∙ ap₂ _+ℤ_ ex (ap₂ _*ℤ_ ea eb)
+-- What adding two terms of words gives, where they are y, p, q, s and t.
+pub read-terms : {r x a c b d y p q s t : ℤ} → SFits w16 r → x ≡ y → a ≡ p → c ≡ q → b ≡ s → d ≡ t
+    → r ≡ (x +ℤ a *ℤ c) +ℤ b *ℤ d → toZ w16 (ofZ w16 r) ≡ (y +ℤ p *ℤ q) +ℤ s *ℤ t
+read-terms {r = r} f ex ea ec eb ed e = toZ-ofZ w16 r f ∙ e ∙ ap₂ _+ℤ_ (ap₂ _+ℤ_ ex (ap₂ _*ℤ_ ea ec)) (ap₂ _*ℤ_ eb ed)
 
 -- A wide word with room for a word of 16 bits.
 pub wide-fits : (x y : ℤ) → natAbs x + 65536 < 2 ^ 31 → SFits w16 y → SFits w32 (x +ℤ y)
@@ -47,12 +48,14 @@ wide-fits x y h f =
 pub word : {z : ℤ} → mag z < 2 ^ 15 → toZ w16 (ofZ w16 z) ≡ z
 word {z} h = toZ-ofZ w16 z (record { sfits = h })
 
--- Room beside each entry of acc for a term with each of row.
-pub term-room : (acc row : List ℤ) (a : ℤ) (k : ℕ) → largest acc + largest row * natAbs a < 2 ^ 15 → natAbs (ofInts acc k) + natAbs a * natAbs (ofInts row k) < 2 ^ 15
-term-room acc row a k h =
-    let term : natAbs a * natAbs (ofInts row k) ≤ largest row * natAbs a =
-    rw (mul-comm (natAbs a) (natAbs (ofInts row k))) (mul-le-mul (le-largest row k) (le-refl (natAbs a))) in
-    omega (arith, h, le-largest acc k, term)
+-- Room beside each entry of acc for two terms with entries of row.
+pub terms-room : (acc row : List ℤ) (a b : ℤ) (k : ℕ) → largest acc + largest row * (natAbs a + natAbs b) < 2 ^ 15
+    → natAbs (ofInts acc k) + (natAbs a * natAbs (ofInts row (k + 1)) + natAbs b * natAbs (ofInts row k)) < 2 ^ 15
+terms-room acc row a b k h =
+    let term : (x : ℤ) (j : ℕ) → natAbs x * natAbs (ofInts row j) ≤ largest row * natAbs x =
+    λ x j. rw (mul-comm (natAbs x) (natAbs (ofInts row j))) (mul-le-mul (le-largest row j) (le-refl (natAbs x)))
+    in
+    omega (arith, h, mul-add (largest row) (natAbs a) (natAbs b), le-largest acc k, term a (k + 1), term b k)
 
 -- ---- columns
 
@@ -64,24 +67,30 @@ pub columns-none : (r v : Poly) → replicate 64 (pos 0) ≡ tabulate 64 (column
 unfolding columns sum
 columns-none r v = sym (tabulate-constant 64 (pos 0))
 
-pub columns-all : (r v : Poly) → tabulate 64 (columns r v 64) ≡ tabulate 64 (toeplitz 64 r v)
-unfolding columns toeplitz
-columns-all r v = refl
+pub columns-all : (row v : List ℤ) → tabulate 64 (columns (ofInts row) (ofInts v) 64) ≡ productOf 64 row v
+unfolding columns productOf toeplitz
+columns-all row v = refl
 
--- What the code adds to acc is a column.
-pub column-more : (n i : ℕ) (row v acc : List ℤ) {l : ℕ} {a : ℤ} → n ≡ 64 → l ≡ 64 → i < 64
-    → acc ≡ tabulate 64 (columns (ofInts row) (ofInts v) i) → a ≡ ofInts v i
-    → tabulate l (λ k. ofInts acc k +ℤ a *ℤ ofInts (reached n i row) k) ≡ tabulate 64 (columns (ofInts row) (ofInts v) (i + 1))
+-- What the code adds to acc is two columns.
+pub columns-more : (n i : ℕ) (row v acc : List ℤ) {l : ℕ} {a b : ℤ} → n ≡ 64 → l ≡ 64 → i + 1 < 64
+    → acc ≡ tabulate 64 (columns (ofInts row) (ofInts v) i) → a ≡ ofInts v i → b ≡ ofInts v (i + 1)
+    → tabulate l (λ k. (ofInts acc k +ℤ a *ℤ ofInts (reachedTwo n i row) (k + 1)) +ℤ b *ℤ ofInts (reachedTwo n i row) k)
+    ≡ tabulate 64 (columns (ofInts row) (ofInts v) (i + 2))
 unfolding columns sum
-column-more n i row v acc {l} {a} same long turn is e =
-    ap (λ (t : ℕ). tabulate t (λ k. ofInts acc k +ℤ a *ℤ ofInts (reached n i row) k)) long
-    ∙ tabulate-ext 64 (λ k. ofInts acc k +ℤ a *ℤ ofInts (reached n i row) k) (columns (ofInts row) (ofInts v) (i + 1))
+columns-more n i row v acc {l} {a} {b} same long turn is ea eb =
+    let f : Poly = λ k. (ofInts acc k +ℤ a *ℤ ofInts (reachedTwo n i row) (k + 1)) +ℤ b *ℤ ofInts (reachedTwo n i row) k in
+    let two : i + 2 ≡ suc (suc i) = omega arith in
+    ap (λ (t : ℕ). tabulate t f) long
+    ∙ tabulate-ext 64 f (columns (ofInts row) (ofInts v) (i + 2))
     (λ k hk.
-    let place : n - i + k ≡ 64 - i + k = omega arith in
+    let first : n - 1 - i + (k + 1) ≡ 64 - i + k = omega arith in
+    let second : n - 1 - i + k ≡ 64 - suc i + k = omega arith in
     ap₂ _+ℤ_
+    (ap₂ _+ℤ_
     (ap (λ (l : List ℤ). ofInts l k) is ∙ tabulate-at 64 (columns (ofInts row) (ofInts v) i) k (pos 0) hk)
-    (ap₂ _*ℤ_ e (reached-at n i row k (pos 0) (omega arith) (omega arith) ∙ ap (ofInts row) place))
-    ∙ ap (λ (j : ℕ). columns (ofInts row) (ofInts v) j k) (sym (add-one i)))
+    (ap₂ _*ℤ_ ea (two-at n i row (k + 1) (pos 0) (omega arith) (omega arith) ∙ ap (ofInts row) first)))
+    (ap₂ _*ℤ_ (eb ∙ ap (ofInts v) (add-one i)) (two-at n i row k (pos 0) (omega arith) (omega arith) ∙ ap (ofInts row) second))
+    ∙ ap (λ (j : ℕ). columns (ofInts row) (ofInts v) j k) (sym two))
 
 -- ---- sizes of columns
 
@@ -103,25 +112,16 @@ sums-size row v acc i e =
     let inside : k < 64 = rw (length-tabulate 64 f) at h in
     rw (tabulate-at 64 f k (pos 0) inside) (columns-size row v i k)))
 
--- Where the terms of 64 columns have room, one more has it beside those that are added.
-pub column-room : (n i : ℕ) (row v acc : List ℤ) {a : ℤ} → i < 64 → acc ≡ tabulate 64 (columns (ofInts row) (ofInts v) i)
-    → Bounded 64 row v → a ≡ ofInts v i → largest acc + largest (reached n i row) * natAbs a < 2 ^ 15
-column-room n i row v acc {a} turn is bound e =
+-- Where the terms of 64 columns have room, two more have it beside those that are added.
+pub columns-room : (n i : ℕ) (row v acc : List ℤ) {a b : ℤ} → i + 1 < 64 → acc ≡ tabulate 64 (columns (ofInts row) (ofInts v) i)
+    → Bounded 64 row v → a ≡ ofInts v i → b ≡ ofInts v (i + 1) → largest acc + largest (reachedTwo n i row) * (natAbs a + natAbs b) < 2 ^ 15
+columns-room n i row v acc {a} {b} turn is bound ea eb =
     let p : ℕ = largest row * largest v in
-    let factor : natAbs a ≤ largest v = rw e (le-largest v i) in
-    let term : largest (reached n i row) * natAbs a ≤ p = mul-le-mul (part-size (n - i) (2 * n - i - (n - i)) row) factor in
-    let all : suc i * p ≤ 64 * p = mul-le-mul turn (le-refl p) in
-    lt-of-le-of-lt (omega (arith, sums-size row v acc i is, term, suc-mul i p, all)) (terms-small 64 row v bound)
-
--- ---- the sums added to acc
-
-pub all-added : (acc sums row v : List ℤ) → length acc ≡ 64 → sums ≡ tabulate 64 (toeplitz 64 (ofInts row) (ofInts v))
-    → tabulate (length acc) (plus (ofInts acc) (ofInts sums)) ≡ withToeplitz acc row v
-unfolding withToeplitz
-all-added acc sums row v long e =
-    tabulate-ext (length acc) (plus (ofInts acc) (ofInts sums)) (plus (ofInts acc) (toeplitz (length acc) (ofInts row) (ofInts v)))
-    (λ k h.
-    let inside : k < 64 = omega arith in
-    ap (λ (z : ℤ). ofInts acc k +ℤ z)
-    (ap (λ (l : List ℤ). ofInts l k) e ∙ tabulate-at 64 (toeplitz 64 (ofInts row) (ofInts v)) k (pos 0) inside
-    ∙ ap (λ (n : ℕ). toeplitz n (ofInts row) (ofInts v) k) (sym long)))
+    let factors : natAbs a + natAbs b ≤ largest v + largest v = rw (ea, eb) (omega (arith, le-largest v i, le-largest v (i + 1))) in
+    let terms : largest (reachedTwo n i row) * (natAbs a + natAbs b) ≤ largest row * (largest v + largest v) =
+    mul-le-mul (part-size (n - 1 - i) (2 * n - i - (n - 1 - i)) row) factors
+    in
+    let all : suc (suc i) * p ≤ 64 * p = mul-le-mul (rw (add-one i) at turn) (le-refl p) in
+    lt-of-le-of-lt
+    (omega (arith, sums-size row v acc i is, terms, mul-add (largest row) (largest v) (largest v), suc-mul (suc i) p, suc-mul i p, all))
+    (terms-small 64 row v bound)

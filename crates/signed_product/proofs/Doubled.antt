@@ -18,7 +18,7 @@ use Rattle.ring.proofs.Ring.{sides, shifted-low, shifted-high}
 use Rattle.ring.proofs.Sums.{sum-ext}
 use Rattle.ring.proofs.Sizes.{le-largest, largest-le}
 use Rattle.product.specs.Toeplitz.{toeplitz}
-use Rattle.signed_product.specs.Toeplitz.{withToeplitz, Sum, Factors}
+use Rattle.signed_product.specs.Toeplitz.{productOf, Matrix, Factors}
 use Rattle.signed_product.specs.Halves.{doubled}
 
 pub doubled-long : (b : List ℤ) → length (doubled b) ≡ 2 * length b
@@ -54,32 +54,32 @@ doubled-size b =
     rw (ap (λ (j : ℕ). ofInts (doubled b) j) place ∙ getD-append-add (tabulate n f) b (i - n) (pos 0)) (le-largest b (i - n)))
     (λ h. rw (List·getD-append (tabulate n f) b (pos 0) i (rw front h) ∙ tabulate-at n f i (pos 0) h, natAbs-neg (ofInts b i)) (le-largest b i)))
 
--- The matrix of b times a is the product.
-pub product-of-row : (acc a b row : List ℤ) → Factors acc a b → row ≡ doubled b → withToeplitz acc row a ≡ withSignedProduct acc a b
-unfolding withToeplitz toeplitz mul
-product-of-row acc a b row f e =
-    let n = length acc in
-    ap (λ (r : List ℤ). tabulate n (plus (ofInts acc) (λ k. sum n (λ i. ofInts a i *ℤ ofInts r (n - i + k))))) e
-    ∙ tabulate-ext n _ _ (λ k hk.
+-- The matrix of b times a, added to acc, is acc + a·b.
+pub product-added : (n : ℕ) (acc a b row product : List ℤ) → length acc ≡ n → Factors acc a b → row ≡ doubled b → product ≡ productOf n row a
+    → tabulate (length acc) (plus (ofInts acc) (ofInts product)) ≡ withSignedProduct acc a b
+unfolding productOf toeplitz mul
+product-added n acc a b row product l f e ep =
+    let long : length b ≡ n = f .second ∙ l in
+    tabulate-ext (length acc) _ _ (λ k hk.
+    let inside : k < n = rw l at hk in
     ap (λ (x : ℤ). ofInts acc k +ℤ x)
-    (sum-ext n _ _ (λ i hi. ap (λ (x : ℤ). ofInts a i *ℤ x) (rw (← f .second) (doubled-at b i k (rw (f .second) hi) (rw (f .second) hk))))))
+    (ap (λ (r : List ℤ). ofInts r k) ep ∙ tabulate-at n (λ k. sum n (λ i. ofInts a i *ℤ ofInts row (n - i + k))) k (pos 0) inside
+    ∙ sum-ext n _ _ (λ i hi. ap (λ (x : ℤ). ofInts a i *ℤ x)
+    (ap (λ (r : List ℤ). ofInts r (n - i + k)) e ∙ rw (← long) (doubled-at b i k (rw long hi) (rw long inside))))
+    ∙ ap (λ (t : ℕ). mul t (ofInts a) (ofInts b) k) (sym l)))
 
 -- What the product of a matrix asks.
-pub sum-of-row : (n : ℕ) (acc a b row : List ℤ) → length acc ≡ n → Factors acc a b → row ≡ doubled b → Sum n acc row a
-sum-of-row n acc a b row l f e = record {
-  sum-long = l;
-  room = f .room;
-  matrix = record {
-    row-long = ap length e ∙ doubled-long b ∙ ap (λ (m : ℕ). 2 * m) (f .second ∙ l);
-    vector-long = f .first ∙ l;
-    bounded = record {
-      first = f .bounded .first;
-      second = f .bounded .second;
-      some-first = f .bounded .some-first;
-      some-second = f .bounded .some-second;
-      first-most = rw e (le-trans (doubled-size b) (f .bounded .first-most));
-      second-most = f .bounded .second-most;
-      small = rw (← l) (f .bounded .small);
-    };
+pub matrix-of-row : (n : ℕ) (acc a b row : List ℤ) → length acc ≡ n → Factors acc a b → row ≡ doubled b → Matrix n row a
+matrix-of-row n acc a b row l f e = record {
+  row-long = ap length e ∙ doubled-long b ∙ ap (λ (m : ℕ). 2 * m) (f .second ∙ l);
+  vector-long = f .first ∙ l;
+  bounded = record {
+    first = f .bounded .first;
+    second = f .bounded .second;
+    some-first = f .bounded .some-first;
+    some-second = f .bounded .some-second;
+    first-most = rw e (le-trans (doubled-size b) (f .bounded .first-most));
+    second-most = f .bounded .second-most;
+    small = rw (← l) (f .bounded .small);
   };
 }

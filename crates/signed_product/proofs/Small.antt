@@ -1,7 +1,7 @@
 -- What follows from small terms. Assumes nothing.
-use mathlib.Core.Path.{_≡_, ap}
+use mathlib.Core.Path.{_≡_, ap, _∙_}
 use mathlib.Core.List.{List}
-use Prim.Native.Nat.{ℕ, _+_, _*_, _^_, _≤_, _<_}
+use Prim.Native.Nat.{ℕ, _+_, _*_, _/_, _^_, _≤_, _<_}
 use native.Mathlib.Nat.{le-refl, lt-of-le-of-lt, mul-le-mul, mul-comm, mul-one, one-mul}
 use native.Mathlib.Omega.{arith}
 use lib.IntN.{ℤ, pos}
@@ -10,7 +10,7 @@ use lib.Seq.{getD-take, getD-drop}
 use Rattle.ring.specs.Integers.{largest}
 use Rattle.ring.proofs.Sizes.{le-largest, largest-le}
 use Rattle.ring.specs.Coefficients.{Summable}
-use Rattle.signed_product.specs.Toeplitz.{Bounded, Factors}
+use Rattle.signed_product.specs.Toeplitz.{Bounded, Rooms, Factors}
 
 -- n terms, and n entries of either list, add up to less than 2^15.
 pub terms-small : (n : ℕ) (xs ys : List ℤ) → Bounded n xs ys → n * (largest xs * largest ys) < 2 ^ 15
@@ -44,6 +44,17 @@ summable acc a b f =
       negatable = entry-small (length acc) (largest b) (f .some) (first-small (length acc) b a (f .bounded));
       small = rw order (omega (arith, f .room, terms-small (length acc) b a (f .bounded)));
     }
+
+-- Rooms for a number of coefficients that is known.
+pub halved : {h n : ℕ} {half middle part : List ℤ} → n ≡ 2 * h → Rooms (n / 2) half middle part → Rooms h half middle part
+halved {h} {n} e r =
+    let same : n / 2 ≡ h = omega arith in
+    rw same at r
+
+-- Rooms that keep their lengths.
+pub kept-rooms : {h : ℕ} {half middle part half' middle' part' : List ℤ} → Rooms h half middle part
+    → length half' ≡ length half → length middle' ≡ length middle → length part' ≡ length part → Rooms h half' middle' part'
+kept-rooms r e f g = record { half-long = e ∙ r .half-long; middle-long = f ∙ r .middle-long; part-long = g ∙ r .part-long }
 
 -- A part of a list has no larger entries.
 pub part-size : (h n : ℕ) (xs : List ℤ) → largest (take n (drop h xs)) ≤ largest xs

@@ -7,12 +7,12 @@ use lib.IntN.{ℤ}
 use lib.ListN.{length}
 use Rattle.keccak.specs.Lists.{tabulate}
 use Rattle.ring.specs.Integers.{largest}
-use Rattle.ring.specs.Poly.{plus, ofInts}
+use Rattle.ring.specs.Poly.{ofInts}
 use Rattle.product.specs.Toeplitz.{toeplitz}
 
--- acc plus the product with v of the matrix that row holds.
-unfoldable pub withToeplitz : List ℤ → List ℤ → List ℤ → List ℤ
-withToeplitz acc row v = tabulate (length acc) (plus (ofInts acc) (toeplitz (length acc) (ofInts row) (ofInts v)))
+-- The product with v of the matrix of n rows that row holds.
+unfoldable pub productOf : ℕ → List ℤ → List ℤ → List ℤ
+productOf n row v = tabulate n (toeplitz n (ofInts row) (ofInts v))
 
 -- Bounds of the entries of two lists by which the sum of n products of one of each is below 2^15.
 pub record Bounded (n : ℕ) (xs ys : List ℤ) : Type 0 where
@@ -30,13 +30,13 @@ pub record Matrix (n : ℕ) (row v : List ℤ) : Type 0 where
   pub vector-long : length v ≡ n
   pub bounded : Bounded n row v
 
--- The same with a sum that has room for their product and its parts.
-pub record Sum (n : ℕ) (acc row v : List ℤ) : Type 0 where
-  pub sum-long : length acc ≡ n
-  pub room : largest acc + 65536 < 2 ^ 31
-  pub matrix : Matrix n row v
+-- Rooms for what a product of 2·h rows is made from.
+pub record Rooms (h : ℕ) (half middle part : List ℤ) : Type 0 where
+  pub half-long : length half ≡ h
+  pub middle-long : length middle ≡ h
+  pub part-long : length part ≡ 3 * h
 
--- Two factors and such a sum, of one length up to 512.
+-- Two factors and a sum that has room for their product, of one length up to 512.
 pub record Factors (acc a b : List ℤ) : Type 0 where
   pub first : length a ≡ length acc
   pub second : length b ≡ length acc

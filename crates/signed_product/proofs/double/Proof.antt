@@ -49,7 +49,7 @@ returns c =
     let n = length (now (a .b)) in
     let f : ℕ → ℤ = λ k. negℤ (ofInts (now (a .b)) k) in
     let front = c .before .before .before .before .negate .last .1 .0 in
-    let back = c .before .copy .last .1 .0 in
+    let back = c .before .copy .last .1 .1 .0 in
     let e = c .before .before .before .before .negate .ensures in
     let long : length front ≡ n = ap length e ∙ length-tabulate n f in
     patched-rest n back (front ++ drop n (now (a .row))) ∙ ap (λ (l : List ℤ). l ++ back) (take-at front (drop n (now (a .row))) n long)

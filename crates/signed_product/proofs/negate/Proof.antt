@@ -4,7 +4,7 @@ use mathlib.Core.Path.{_≡_, refl, ap, _∙_}
 use Prim.Native.Nat.{_-_, _≤_}
 use native.Mathlib.Omega.{arith}
 use denote.Ref.{now}
-use lib.IntN.{ℤ, pos, negℤ, _-ℤ_, +ℤ-idl}
+use lib.IntN.{ℤ, pos, negℤ, _-ℤ_, +ℤ-idl, +ℤ-idr}
 use lib.ListN.{length, getD, length-set}
 use mir.Syntax.{w16}
 use mir.Val.{toZ, ofZ}
@@ -12,6 +12,7 @@ use mir.ValLaws.{toZ-ofZ}
 use Rattle.bits.proofs.Filling.{filled, filled-none, filled-more, filled-all}
 use Rattle.ring.specs.Poly.{ofInts}
 use Rattle.ring.proofs.Sizes.{le-largest}
+use Rattle.ring.proofs.Integers.{natAbs-neg}
 use Rattle.signed_product.proofs.negate.Statement.{statement}
 use Rattle.signed_product.proofs.negate.Tie as tie
 
@@ -36,7 +37,7 @@ difference-requires c κs =
     let a = c .before .before .before .args in
     let y = getD (now (a .src)) (h .k) (pos 0) in
     let sy : toZ w16 (ofZ w16 y) ≡ y = toZ-ofZ w16 y (record { sfits = c .difference-arg .given }) in
-    rw sy (omega (arith, le-largest (now (a .src)) (h .k), c .before .before .before .pre .1))
+    simp (sy, +ℤ-idl, +ℤ-idr, natAbs-neg) (omega (arith, le-largest (now (a .src)) (h .k), c .before .before .before .pre .1))
 
 mul-t9 : tie.Need-mul-t9 Inv-loop μ-loop
 mul-t9 c = omega arith

@@ -1,13 +1,13 @@
 -- `product::rows::toeplitz_rows` meets its contract: after i entries of v the first i columns are added.
 -- Assumes nothing.
 use mathlib.Core.Path.{_≡_, refl, ap, _∙_}
-use Prim.Native.Nat.{ℕ, _-_, _≤_}
+use Prim.Native.Nat.{ℕ, _+_, _-_, _≤_}
 use native.Mathlib.Omega.{arith}
 use denote.Ref.{now}
 use lib.ListN.{length}
 use Rattle.bits.specs.Bits.{Below}
 use Rattle.ring.specs.Poly.{ofNats, residues}
-use Rattle.product.proofs.Columns.{columns, columns-none, columns-all, column-long, column-more}
+use Rattle.product.proofs.Columns.{columns, columns-none, columns-all, column-long, column-more, two-long, columns-more}
 use Rattle.product.proofs.rows.toeplitz_rows.Statement.{statement}
 use Rattle.product.proofs.rows.toeplitz_rows.Tie as tie
 
@@ -24,6 +24,70 @@ loop-holds c =
     let a = c .before .before .before .args in
     let words : Below 65536 (now (a .acc)) = λ i. c .before .before .slice-known .given i .fits in
     (omega arith, refl, columns-none (now (a .acc)) (ofNats (now (a .row))) (ofNats (now (a .v))) words)
+
+sub-loop : tie.Need-sub-loop Inv-loop μ-loop
+sub-loop c = omega arith
+
+sub-add-two : tie.Need-sub-add-two Inv-loop μ-loop
+sub-add-two c = omega arith
+
+sub-add-two-2 : tie.Need-sub-add-two-2 Inv-loop μ-loop
+sub-add-two-2 c = omega arith
+
+mul-add-two : tie.Need-mul-add-two Inv-loop μ-loop
+mul-add-two c = omega arith
+
+sub-add-two-3 : tie.Need-sub-add-two-3 Inv-loop μ-loop
+sub-add-two-3 c = omega arith
+
+mul-add-two-2 : tie.Need-mul-add-two-2 Inv-loop μ-loop
+mul-add-two-2 c = omega arith
+
+sub-add-two-4 : tie.Need-sub-add-two-4 Inv-loop μ-loop
+sub-add-two-4 c = omega arith
+
+part-add-two-start : tie.Need-part-add-two-start Inv-loop μ-loop
+part-add-two-start c = omega arith
+
+part-add-two-end : tie.Need-part-add-two-end Inv-loop μ-loop
+part-add-two-end c = omega arith
+
+mul-add-two-3 : tie.Need-mul-add-two-3 Inv-loop μ-loop
+mul-add-two-3 c = omega arith
+
+shared-slice-read-add-two : tie.Need-shared-slice-read-add-two Inv-loop μ-loop
+shared-slice-read-add-two c = omega arith
+
+add-add-two : tie.Need-add-add-two Inv-loop μ-loop
+add-add-two c = omega arith
+
+mul-add-two-4 : tie.Need-mul-add-two-4 Inv-loop μ-loop
+mul-add-two-4 c = omega arith
+
+shared-slice-read-add-two-2 : tie.Need-shared-slice-read-add-two-2 Inv-loop μ-loop
+shared-slice-read-add-two-2 c = omega arith
+
+add-two-requires : tie.Need-add-two-requires Inv-loop μ-loop
+add-two-requires c κs =
+    let h = c .before .before .before .before .before .loop in
+    let a = c .before .before .before .before .before .before .before .before .before .args in
+    two-long (length (now (a .acc))) (h .i) (now (a .row)) (omega arith) (omega arith) ∙ omega arith
+
+add-i : tie.Need-add-i Inv-loop μ-loop
+add-i c = omega arith
+
+loop-less : tie.Need-loop-less Inv-loop μ-loop
+loop-less c = omega arith
+
+loop-again : tie.Need-loop-again Inv-loop μ-loop
+loop-again c =
+    let h = c .before .before .before .before .before .before .before .before .loop in
+    let a = c .before .before .before .before .before .before .before .before .before .before .before .before .args in (
+      omega arith,
+      c .before .before .add-two .kept .0 ∙ h .inv .1,
+      c .before .before .add-two .ensures
+          ∙ rw (h .inv .1) (columns-more (length (now (a .acc))) (ofNats (now (a .acc))) (now (a .row)) (now (a .v)) (h .acc) (h .i) (omega arith) (h .inv .2)),
+    )
 
 sub-add-column : tie.Need-sub-add-column Inv-loop μ-loop
 sub-add-column c = omega arith
@@ -54,33 +118,31 @@ shared-slice-read-add-column c = omega arith
 
 add-column-requires : tie.Need-add-column-requires Inv-loop μ-loop
 add-column-requires c κs =
-    let h = c .before .before .before .before .loop in
-    let a = c .before .before .before .before .before .before .before .before .args in
-    column-long (length (now (a .acc))) (h .i) (now (a .row)) (omega arith) (omega arith) ∙ rw (h .inv .1)
-
-add-i : tie.Need-add-i Inv-loop μ-loop
-add-i c = omega arith
-
-loop-less : tie.Need-loop-less Inv-loop μ-loop
-loop-less c = omega arith
-
-loop-again : tie.Need-loop-again Inv-loop μ-loop
-loop-again c =
-    let h = c .before .before .before .before .before .before .before .loop in
-    let a = c .before .before .before .before .before .before .before .before .before .before .before .args in (
-      omega arith,
-      c .before .before .add-column .kept .0 ∙ h .inv .1,
-      c .before .before .add-column .ensures
-          ∙ rw (h .inv .1) (column-more (length (now (a .acc))) (ofNats (now (a .acc))) (now (a .row)) (now (a .v)) (h .acc) (h .i) (omega arith) (h .inv .2)),
-    )
+    let h = c .before .before .before .before .before .loop in
+    let a = c .before .before .before .before .before .before .before .before .before .args in
+    column-long (length (now (a .acc))) (h .i) (now (a .row)) (omega arith) (omega arith) ∙ omega arith
 
 same-length : tie.Need-same-length Inv-loop μ-loop
-same-length c = c .before .loop .inv .1
+same-length c = c .before .before .add-column .kept .0 ∙ c .before .before .before .before .before .before .before .before .loop .inv .1
 
 returns : tie.Need-returns Inv-loop μ-loop
 returns c =
-    let h = c .before .loop in
-    let a = c .before .before .before .before .before .args in
+    let h = c .before .before .before .before .before .before .before .before .loop in
+    let a = c .before .before .before .before .before .before .before .before .before .before .before .before .args in
+    let n = length (now (a .acc)) in
+    let all : h .i + 1 ≡ n = omega arith in
+    c .before .before .add-column .ensures
+    ∙ rw (h .inv .1) (column-more n (ofNats (now (a .acc))) (now (a .row)) (now (a .v)) (h .acc) (h .i) (omega arith) (h .inv .2))
+    ∙ ap (λ (m : ℕ). residues 65536 n (columns n (ofNats (now (a .acc))) (ofNats (now (a .row))) (ofNats (now (a .v))) m)) all
+    ∙ columns-all (now (a .acc)) (now (a .row)) (now (a .v))
+
+same-length-2 : tie.Need-same-length-2 Inv-loop μ-loop
+same-length-2 c = c .before .before .loop .inv .1
+
+returns-2 : tie.Need-returns-2 Inv-loop μ-loop
+returns-2 c =
+    let h = c .before .before .loop in
+    let a = c .before .before .before .before .before .before .args in
     let n = length (now (a .acc)) in
     let all : h .i ≡ n = omega arith in
     h .inv .2 ∙ ap (λ (m : ℕ). residues 65536 n (columns n (ofNats (now (a .acc))) (ofNats (now (a .row))) (ofNats (now (a .v))) m)) all
@@ -93,6 +155,24 @@ toeplitz-rows-spec =
     Inv-loop
     μ-loop
     loop-holds
+    sub-loop
+    sub-add-two
+    sub-add-two-2
+    mul-add-two
+    sub-add-two-3
+    mul-add-two-2
+    sub-add-two-4
+    part-add-two-start
+    part-add-two-end
+    mul-add-two-3
+    shared-slice-read-add-two
+    add-add-two
+    mul-add-two-4
+    shared-slice-read-add-two-2
+    add-two-requires
+    add-i
+    loop-less
+    loop-again
     sub-add-column
     mul-add-column
     sub-add-column-2
@@ -103,8 +183,7 @@ toeplitz-rows-spec =
     mul-add-column-3
     shared-slice-read-add-column
     add-column-requires
-    add-i
-    loop-less
-    loop-again
     same-length
-    returns)
+    returns
+    same-length-2
+    returns-2)

@@ -1,57 +1,57 @@
--- `signed_product::halves::add` meets its contract: after k turns the first k entries are added.
+-- `signed_product::halves::add` meets its contract: after k turns the first k entries are written.
 -- Assumes nothing.
-use mathlib.Core.Path.{_≡_, refl, ap₂, _∙_}
-use Prim.Native.Nat.{_-_, _≤_}
+use mathlib.Core.Path.{_≡_, refl, ap, ap₂, _∙_}
+use Prim.Native.Nat.{ℕ, _-_, _≤_}
 use native.Mathlib.Omega.{arith}
 use denote.Ref.{now}
 use lib.IntN.{pos, _+ℤ_}
 use lib.ListN.{length, getD, length-set}
-use mir.Syntax.{w32}
+use mir.Syntax.{w16}
 use mir.Val.{toZ, ofZ}
 use mir.ValLaws.{toZ-ofZ}
-use Rattle.bits.proofs.Filling.{filled, filled-none, filled-more, filled-at, filled-all}
+use Rattle.keccak.specs.Lists.{tabulate}
+use Rattle.bits.proofs.Filling.{filled, filled-none, filled-more, filled-all}
 use Rattle.ring.specs.Poly.{plus, ofInts}
-use Rattle.ring.proofs.Sizes.{le-largest}
+use Rattle.signed_product.proofs.Joining.{entry-size}
 use Rattle.signed_product.proofs.halves.add.Statement.{statement}
 use Rattle.signed_product.proofs.halves.add.Tie as tie
 
 abbrev Inv-loop : tie.InvT-loop
-Inv-loop acc₀ b k₀ acc k = (k ≤ length acc₀) × (length acc ≡ length acc₀) × (acc ≡ filled k (plus (ofInts acc₀) (ofInts b)) acc₀)
+Inv-loop n a b dst₀ k₀ dst k = (k ≤ length dst₀) × (length dst ≡ length dst₀) × (dst ≡ filled k (plus (ofInts a) (ofInts b)) dst₀)
 
 abbrev μ-loop : tie.MeasureT-loop
-μ-loop acc₀ b k₀ acc k = length acc₀ - k
+μ-loop n a b dst₀ k₀ dst k = length dst₀ - k
 
 loop-holds : tie.Need-loop-holds Inv-loop μ-loop
 loop-holds c = (omega arith, refl, filled-none _ _)
 
-mul-wide-sum : tie.Need-mul-wide-sum Inv-loop μ-loop
-mul-wide-sum c = omega arith
+mul-sum : tie.Need-mul-sum Inv-loop μ-loop
+mul-sum c = omega arith
 
-slice-copy-out-wide-sum : tie.Need-slice-copy-out-wide-sum Inv-loop μ-loop
-slice-copy-out-wide-sum c = omega arith
+shared-slice-copy-out-sum : tie.Need-shared-slice-copy-out-sum Inv-loop μ-loop
+shared-slice-copy-out-sum c = omega arith
 
-mul-wide-sum-2 : tie.Need-mul-wide-sum-2 Inv-loop μ-loop
-mul-wide-sum-2 c = omega arith
+mul-sum-2 : tie.Need-mul-sum-2 Inv-loop μ-loop
+mul-sum-2 c = omega arith
 
-shared-slice-copy-out-wide-sum : tie.Need-shared-slice-copy-out-wide-sum Inv-loop μ-loop
-shared-slice-copy-out-wide-sum c = omega arith
+shared-slice-copy-out-sum-2 : tie.Need-shared-slice-copy-out-sum-2 Inv-loop μ-loop
+shared-slice-copy-out-sum-2 c = omega arith
 
-wide-sum-requires : tie.Need-wide-sum-requires Inv-loop μ-loop
-wide-sum-requires c κs =
+sum-requires : tie.Need-sum-requires Inv-loop μ-loop
+sum-requires c κs =
     let h = c .before .before .before .loop in
-    let a = c .before .before .before .before .args in
-    let x = getD (h .acc) (h .k) (pos 0) in
-    let y = getD (now (a .b)) (h .k) (pos 0) in
-    let sx : toZ w32 (ofZ w32 x) ≡ x = toZ-ofZ w32 x (record { sfits = c .before .wide-sum-arg .given }) in
-    let sy : toZ w32 (ofZ w32 y) ≡ y = toZ-ofZ w32 y (record { sfits = c .wide-sum-arg2 .given }) in
-    let there : x ≡ ofInts (now (a .acc)) (h .k) = filled-at (h .k) (h .k) _ (now (a .acc)) (pos 0) (omega arith) (h .inv .2) in
-    rw (sx, sy, there) (omega (arith, le-largest (now (a .acc)) (h .k), le-largest (now (a .b)) (h .k), c .before .before .before .before .pre .1))
+    let s = c .before .before .before .before .args in
+    let x = getD (now (s .a)) (h .k) (pos 0) in
+    let y = getD (now (s .b)) (h .k) (pos 0) in
+    let sx : toZ w16 (ofZ w16 x) ≡ x = toZ-ofZ w16 x (record { sfits = c .before .sum-arg .given }) in
+    let sy : toZ w16 (ofZ w16 y) ≡ y = toZ-ofZ w16 y (record { sfits = c .sum-arg2 .given }) in
+    rw (sx, sy) (entry-size (length (now (s .a))) (plus (ofInts (now (s .a))) (ofInts (now (s .b)))) (omega arith) (c .before .before .before .before .pre .3))
 
-mul-t12 : tie.Need-mul-t12 Inv-loop μ-loop
-mul-t12 c = omega arith
+mul-t14 : tie.Need-mul-t14 Inv-loop μ-loop
+mul-t14 c = omega arith
 
-slice-set-from-acc : tie.Need-slice-set-from-acc Inv-loop μ-loop
-slice-set-from-acc c = omega arith
+slice-set-from-dst : tie.Need-slice-set-from-dst Inv-loop μ-loop
+slice-set-from-dst c = omega arith
 
 add-k : tie.Need-add-k Inv-loop μ-loop
 add-k c = omega arith
@@ -62,16 +62,15 @@ loop-less c = omega arith
 loop-again : tie.Need-loop-again Inv-loop μ-loop
 loop-again c =
     let h = c .before .before .before .before .loop in
-    let a = c .before .before .before .before .before .args in
-    let x = getD (h .acc) (h .k) (pos 0) in
-    let y = getD (now (a .b)) (h .k) (pos 0) in
-    let sx : toZ w32 (ofZ w32 x) ≡ x = toZ-ofZ w32 x (record { sfits = c .before .before .wide-sum-arg .given }) in
-    let sy : toZ w32 (ofZ w32 y) ≡ y = toZ-ofZ w32 y (record { sfits = c .before .wide-sum-arg2 .given }) in
-    let there : x ≡ ofInts (now (a .acc)) (h .k) = filled-at (h .k) (h .k) _ (now (a .acc)) (pos 0) (omega arith) (h .inv .2) in (
+    let s = c .before .before .before .before .before .args in
+    let x = getD (now (s .a)) (h .k) (pos 0) in
+    let y = getD (now (s .b)) (h .k) (pos 0) in
+    let sx : toZ w16 (ofZ w16 x) ≡ x = toZ-ofZ w16 x (record { sfits = c .before .before .sum-arg .given }) in
+    let sy : toZ w16 (ofZ w16 y) ≡ y = toZ-ofZ w16 y (record { sfits = c .before .sum-arg2 .given }) in (
       omega arith,
       simp length-set (h .inv .1),
-      filled-more (h .k) (plus (ofInts (now (a .acc))) (ofInts (now (a .b)))) (now (a .acc)) (pos 0) (omega arith) (h .inv .2)
-          (toZ-ofZ w32 (c .wide-sum .result) (record { sfits = c .wide-sum .ok }) ∙ c .wide-sum .ensures ∙ ap₂ _+ℤ_ (sx ∙ there) sy),
+      filled-more (h .k) (plus (ofInts (now (s .a))) (ofInts (now (s .b)))) (now (s .dst)) (pos 0) (omega arith) (h .inv .2)
+          (toZ-ofZ w16 (c .sum .result) (record { sfits = c .sum .ok }) ∙ c .sum .ensures ∙ ap₂ _+ℤ_ sx sy),
     )
 
 same-length : tie.Need-same-length Inv-loop μ-loop
@@ -80,8 +79,9 @@ same-length c = c .before .loop .inv .1
 returns : tie.Need-returns Inv-loop μ-loop
 returns c =
     let h = c .before .loop in
-    let a = c .before .before .args in
-    filled-all (h .k) (length (now (a .acc))) (plus (ofInts (now (a .acc))) (ofInts (now (a .b)))) (now (a .acc)) refl (omega arith) (omega arith) (h .inv .2)
+    let s = c .before .before .args in
+    let long : length (now (s .a)) ≡ s .n = c .before .before .pre .1 in
+    filled-all (h .k) (length (now (s .a))) (plus (ofInts (now (s .a))) (ofInts (now (s .b)))) (now (s .dst)) (omega arith) (omega arith) (omega arith) (h .inv .2)
 
 pub add-spec : {M : Type 1} → statement M
 add-spec =
@@ -90,13 +90,13 @@ add-spec =
     Inv-loop
     μ-loop
     loop-holds
-    mul-wide-sum
-    slice-copy-out-wide-sum
-    mul-wide-sum-2
-    shared-slice-copy-out-wide-sum
-    wide-sum-requires
-    mul-t12
-    slice-set-from-acc
+    mul-sum
+    shared-slice-copy-out-sum
+    mul-sum-2
+    shared-slice-copy-out-sum-2
+    sum-requires
+    mul-t14
+    slice-set-from-dst
     add-k
     loop-less
     loop-again

@@ -1,17 +1,15 @@
 -- `signed_product::halves::difference` meets its contract: the result fits.
 -- Assumes nothing.
-use native.Mathlib.Omega.{arith}
-use lib.IntN.{negℤ, _-ℤ_}
+use lib.IntN.{_-ℤ_}
 use mir.Syntax.{w16}
 use mir.Val.{SFits}
 use mir.ValLaws.{toZ-ofZ}
 use Rattle.ring.proofs.Sizes.{fits-abs}
-use Rattle.ring.proofs.Integers.{natAbs-add, natAbs-neg}
 use Rattle.signed_product.proofs.halves.difference.Statement.{statement}
 use Rattle.signed_product.proofs.halves.difference.Tie as tie
 
 fits : (c : tie.Start) → SFits w16 (c .args .x -ℤ c .args .y)
-fits c = fits-abs w16 (c .args .x -ℤ c .args .y) (omega (arith, natAbs-add (c .args .x) (negℤ (c .args .y)), natAbs-neg (c .args .y), c .pre))
+fits c = fits-abs w16 (c .args .x -ℤ c .args .y) (c .pre)
 
 sub-result : tie.Need-sub-result
 sub-result c = rw (toZ-ofZ w16 (c .args .x) (c .fits .x), toZ-ofZ w16 (c .args .y) (c .fits .y)) (fits c)

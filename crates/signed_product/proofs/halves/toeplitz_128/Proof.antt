@@ -1,77 +1,66 @@
 -- `signed_product::halves::toeplitz_128` meets its contract: the three products of half the length make up the whole.
 -- Assumes nothing.
-use mathlib.Core.Path.{_≡_, sym, ap, _∙_}
-use mathlib.Core.List.{List, _++_}
-use Prim.Native.Nat.{ℕ, _≤_}
+use mathlib.Core.Path.{_≡_, sym, _∙_}
+use mathlib.Core.List.{_++_}
+use Prim.Native.Nat.{_<_, zero-le, suc-le-suc}
 use native.Mathlib.Omega.{arith}
 use borrow.Author.Needs.{needs}
 use denote.Ref.{now}
-use lib.IntN.{ℤ}
 use lib.ListN.{length, drop}
-use Rattle.ring.specs.Integers.{largest}
-use Rattle.product.proofs.Joining.{putRest, first-long, rest-long, front-long, replaced-long}
-use Rattle.signed_product.specs.Halves.{folded, rowDifference}
-use Rattle.signed_product.proofs.Small.{first-small, second-small}
-use Rattle.signed_product.proofs.Joining.{zeros-long, middle-sum, upper-sum, lower-sum, middle-size, upper-room, lower-room, halves-joined}
+use Rattle.product.proofs.Joining.{first-long, rest-long, front-long as front-filled}
+use Rattle.signed_product.proofs.Joining.{first-half, second-half, front-long, back-long, both-small, rows-small, middle-matrix, upper-matrix, lower-matrix, upper-small, lower-small, halves-joined}
 use Rattle.signed_product.proofs.halves.toeplitz_128.Statement.{statement}
 use Rattle.signed_product.proofs.halves.toeplitz_128.Tie as tie
 
--- The folded vector, and the two parts of the row.
-both-is : (c : tie.After-fold) → c .fold .last .1 .0 ≡ folded 64 (now (c .before .before .before .before .before .args .v))
-both-is c = c .fold .ensures ∙ ap (λ (m : ℕ). folded m (now (c .before .before .before .before .before .args .v))) (zeros-long (c .before .before .before .before .words-64 .ensures))
+some : 0 < 64
+some = suc-le-suc zero-le
 
-above-is : (c : tie.After-row-difference) → c .row-difference .last .1 .1 .1 .0 ≡ rowDifference 0 64 128 (now (c .before .before .before .before .before .before .before .before .before .before .before .before .before .args .row))
-above-is c = c .row-difference .ensures ∙ ap (λ (m : ℕ). rowDifference 0 64 m (now (c .before .before .before .before .before .before .before .before .before .before .before .before .before .args .row))) (zeros-long (c .before .before .before .before .before .before .before .before .before .before .words-128 .ensures))
+-- The room for the sum of the halves, which then holds the upper product and the lower one.
+half-1 : (c : tie.After-add) → length (c .add .last .1 .1 .1 .0) ≡ 64
+half-1 c =
+    let pre = c .before .before .before .before .pre in
+    c .add .kept .1 .1 .1 .0 ∙ pre .1 .half-long
 
-part-long : (c : tie.After-row-difference) → length (c .row-difference .last .1 .1 .1 .0) ≡ 128
-part-long c = c .row-difference .kept .1 .1 .1 .0 ∙ zeros-long (c .before .before .before .before .before .before .before .before .before .before .words-128 .ensures)
+half-2 : (c : tie.After-toeplitz-642) → length (c .toeplitz-642 .last .1 .1 .0) ≡ 64
+half-2 c =
+    c .toeplitz-642 .kept .1 .1 .0 ∙ half-1 (c .before .before .before .before .before .before .before .before .before .before .before .before .before .before .before)
 
-below-is : (c : tie.After-row-difference2) → c .row-difference2 .last .1 .1 .1 .0 ≡ rowDifference 128 64 128 (now (c .before .before .before .before .before .before .before .before .before .before .before .before .before .before .before .before .before .before .before .before .before .args .row))
-below-is c = c .row-difference2 .ensures ∙ ap (λ (m : ℕ). rowDifference 128 64 m (now (c .before .before .before .before .before .before .before .before .before .before .before .before .before .before .before .before .before .before .before .before .before .args .row))) (part-long (c .before .before .before .before .before .before .before .before))
+half-3 : (c : tie.After-toeplitz-643) → length (c .toeplitz-643 .last .1 .1 .0) ≡ 64
+half-3 c =
+    c .toeplitz-643 .kept .1 .1 .0 ∙ half-2 (c .before .before .before .before .before .before .before .before .before .before .before)
 
--- The length and the size of the middle product.
-middle-long : (c : tie.After-toeplitz-64) → length (c .toeplitz-64 .last .0) ≡ 64
-middle-long c = c .toeplitz-64 .kept .0 ∙ zeros-long (c .before .before .before .before .before .before .before .before .zeros-64 .ensures)
+-- The middle product, the differences of rows, and what is in the place of the whole once its first half is there.
+middle-1 : (c : tie.After-toeplitz-64) → length (c .toeplitz-64 .last .1 .1 .0) ≡ 64
+middle-1 c =
+    let pre = c .before .before .before .before .before .before .before .before .before .pre in
+    c .toeplitz-64 .kept .1 .1 .0 ∙ pre .1 .middle-long
 
-middle-small : (c : tie.After-toeplitz-64) → largest (c .toeplitz-64 .last .0) ≤ 32768
-middle-small c =
-    let a = c .before .before .before .before .before .before .before .before .before .before .args in
-    middle-size 64 (now (a .acc)) (now (a .row)) (now (a .v)) (c .before .before .before .before .before .before .before .before .before .before .pre) (c .before .before .before .before .before .before .before .before .zeros-64 .ensures) (both-is (c .before .before .before .before .before)) (c .toeplitz-64 .ensures)
+dst-1 : (c : tie.After-add2) → length (c .add2 .last .1 .1 .1 .0 ++ drop 64 (now (c .before .before .before .before .before .before .before .before .before .before .before .before .before .before .before .before .before .before .before .before .before .before .before .before .args .dst))) ≡ 128
+dst-1 c =
+    let a = c .before .before .before .before .before .before .before .before .before .before .before .before .before .before .before .before .before .before .before .before .before .before .before .before .args in
+    let pre = c .before .before .before .before .before .before .before .before .before .before .before .before .before .before .before .before .before .before .before .before .before .before .before .before .pre in
+    front-filled 64 (now (a .dst)) (c .add2 .last .1 .1 .1 .0) (pre .2) (c .add2 .kept .1 .1 .1 .0)
 
--- The sum after both products of its halves.
-abbrev halves : tie.After-toeplitz-643 → List ℤ
-halves c = putRest 64 (c .toeplitz-643 .last .0) (c .before .before .before .before .before .before .before .before .toeplitz-642 .last .0 ++ drop 64 (now (c .before .before .before .before .before .before .before .before .before .before .before .before .before .before .before .before .before .before .before .before .before .before .before .before .before .before .args .acc)))
+slice-aggregate-add : tie.Need-slice-aggregate-add
+slice-aggregate-add c =
+    let a = c .before .args in
+    let pre = c .before .pre in
+    sym (first-half 64 (now (a .row)) (now (a .v)) some (pre .0))
 
-halves-long : (c : tie.After-toeplitz-643) → length (halves c) ≡ 128
-halves-long c = replaced-long 64 (now (c .before .before .before .before .before .before .before .before .before .before .before .before .before .before .before .before .before .before .before .before .before .before .before .before .before .before .args .acc)) (c .before .before .before .before .before .before .before .before .toeplitz-642 .last .0) (c .toeplitz-643 .last .0) (c .before .before .before .before .before .before .before .before .before .before .before .before .before .before .before .before .before .before .before .before .before .before .before .before .before .before .pre .sum-long) (c .before .before .before .before .before .before .before .before .toeplitz-642 .kept .0) (c .toeplitz-643 .kept .0)
+sub-add : tie.Need-sub-add
+sub-add c = search needs
 
--- The same with the middle product in its upper half.
-abbrev whole : tie.After-add → List ℤ
-whole c = c .add .last .0 ++ drop 64 (halves (c .before .before .before .before))
+part-add-start : tie.Need-part-add-start
+part-add-start c = search needs
 
-whole-long : (c : tie.After-add) → length (whole c) ≡ 128
-whole-long c = front-long 64 (halves (c .before .before .before .before)) (c .add .last .0) (halves-long (c .before .before .before .before)) (c .add .kept .0)
+part-add-end : tie.Need-part-add-end
+part-add-end c = search needs
 
-words-64-requires : tie.Need-words-64-requires
-words-64-requires c κs = search needs
-
-zeros-64-requires : tie.Need-zeros-64-requires
-zeros-64-requires c κs = search needs
-
-words-128-requires : tie.Need-words-128-requires
-words-128-requires c κs = search needs
-
-slice-aggregate-fold : tie.Need-slice-aggregate-fold
-slice-aggregate-fold c = search needs
-
-fold-requires : tie.Need-fold-requires
-fold-requires c κs =
-    let a = c .before .before .before .before .args in
-    let m = c .before .before .before .before .pre .matrix in
-    (omega (arith, m .vector-long, zeros-long {n = 64} (c .before .before .before .words-64 .ensures)), omega (arith, second-small 128 (now (a .row)) (now (a .v)) (m .bounded)))
-
-slice-aggregate-toeplitz-64 : tie.Need-slice-aggregate-toeplitz-64
-slice-aggregate-toeplitz-64 c = search needs
+add-requires : tie.Need-add-requires
+add-requires c κs =
+    let a = c .before .before .before .args in
+    let pre = c .before .before .before .pre in
+    (pre .1 .half-long, first-half 64 (now (a .row)) (now (a .v)) some (pre .0), second-half 64 (now (a .row)) (now (a .v)) some (pre .0), both-small 64 (now (a .row)) (now (a .v)) some (pre .0))
 
 sub-toeplitz-64 : tie.Need-sub-toeplitz-64
 sub-toeplitz-64 c = search needs
@@ -82,33 +71,41 @@ part-toeplitz-64-start c = search needs
 part-toeplitz-64-end : tie.Need-part-toeplitz-64-end
 part-toeplitz-64-end c = search needs
 
-slice-aggregate-toeplitz-64-2 : tie.Need-slice-aggregate-toeplitz-64-2
-slice-aggregate-toeplitz-64-2 c = search needs
-
 toeplitz-64-requires : tie.Need-toeplitz-64-requires
 toeplitz-64-requires c κs =
-    let a = c .before .before .before .before .before .before .before .before .before .args in
-    middle-sum 64 (now (a .acc)) (now (a .row)) (now (a .v)) (c .before .before .before .before .before .before .before .before .before .pre) (c .before .before .before .before .before .before .before .zeros-64 .ensures) (both-is (c .before .before .before .before))
+    let a = c .before .before .before .before .before .before .before .before .args in
+    let pre = c .before .before .before .before .before .before .before .before .pre in
+    (pre .1 .middle-long, middle-matrix 64 (now (a .row)) (now (a .v)) some (pre .0) (c .before .before .before .before .add .ensures))
 
-slice-aggregate-row-difference : tie.Need-slice-aggregate-row-difference
-slice-aggregate-row-difference c = search needs
+slice-aggregate-subtract : tie.Need-slice-aggregate-subtract
+slice-aggregate-subtract c =
+    let a = c .before .before .before .before .before .before .before .before .before .before .before .args in
+    let pre = c .before .before .before .before .before .before .before .before .before .before .before .pre in
+    sym (front-long 64 (now (a .row)) (now (a .v)) some (pre .0))
 
-row-difference-requires : tie.Need-row-difference-requires
-row-difference-requires c κs =
-    let a = c .before .before .before .before .before .before .before .before .before .before .before .before .args in
-    let m = c .before .before .before .before .before .before .before .before .before .before .before .before .pre .matrix in
-    let long = zeros-long {n = 128} (c .before .before .before .before .before .before .before .before .before .words-128 .ensures) in
-    let small = first-small 128 (now (a .row)) (now (a .v)) (m .bounded) in
-    (omega (arith, long, m .row-long), omega (arith, long, m .row-long), omega (arith, small))
+sub-subtract : tie.Need-sub-subtract
+sub-subtract c = search needs
 
-slice-relend-prefix-toeplitz-64 : tie.Need-slice-relend-prefix-toeplitz-64
-slice-relend-prefix-toeplitz-64 c = search needs
+part-subtract-start : tie.Need-part-subtract-start
+part-subtract-start c = search needs
 
-slice-aggregate-toeplitz-64-3 : tie.Need-slice-aggregate-toeplitz-64-3
-slice-aggregate-toeplitz-64-3 c = sym (first-long 64 (now (c .before .before .before .before .before .before .before .before .before .before .before .before .before .before .before .args .acc)) (c .before .before .before .before .before .before .before .before .before .before .before .before .before .before .before .pre .sum-long))
+part-subtract-end : tie.Need-part-subtract-end
+part-subtract-end c = search needs
 
-slice-aggregate-toeplitz-64-4 : tie.Need-slice-aggregate-toeplitz-64-4
-slice-aggregate-toeplitz-64-4 c = search needs
+subtract-requires : tie.Need-subtract-requires
+subtract-requires c κs =
+    let a = c .before .before .before .before .before .before .before .before .before .before .before .before .before .args in
+    let pre = c .before .before .before .before .before .before .before .before .before .before .before .before .before .pre in
+    (pre .1 .part-long, front-long 64 (now (a .row)) (now (a .v)) some (pre .0), back-long 64 (now (a .row)) (now (a .v)) some (pre .0), rows-small 64 (now (a .row)) (now (a .v)) some (pre .0))
+
+slice-reshare-prefix-toeplitz-64 : tie.Need-slice-reshare-prefix-toeplitz-64
+slice-reshare-prefix-toeplitz-64 c = search needs
+
+slice-aggregate-toeplitz-64 : tie.Need-slice-aggregate-toeplitz-64
+slice-aggregate-toeplitz-64 c =
+    let a = c .before .before .before .before .before .before .before .before .before .before .before .before .before .before .before .before .args in
+    let pre = c .before .before .before .before .before .before .before .before .before .before .before .before .before .before .before .before .pre in
+    sym (upper-matrix 64 (now (a .row)) (now (a .v)) some (pre .0) (c .before .before .subtract .ensures) .row-long)
 
 sub-toeplitz-64-2 : tie.Need-sub-toeplitz-64-2
 sub-toeplitz-64-2 c = search needs
@@ -120,18 +117,29 @@ part-toeplitz-64-end-2 : tie.Need-part-toeplitz-64-end-2
 part-toeplitz-64-end-2 c = search needs
 
 toeplitz-64-requires-2 : tie.Need-toeplitz-64-requires-2
-toeplitz-64-requires-2 c κs = upper-sum 64 _ _ _ 0 (c .before .before .before .before .before .before .before .before .before .before .before .before .before .before .before .before .before .pre) (above-is (c .before .before .before .before))
+toeplitz-64-requires-2 c κs =
+    let a = c .before .before .before .before .before .before .before .before .before .before .before .before .before .before .before .before .before .before .args in
+    let pre = c .before .before .before .before .before .before .before .before .before .before .before .before .before .before .before .before .before .before .pre in
+    (half-1 (c .before .before .before .before .before .before .before .before .before .before .before .before .before .before), upper-matrix 64 (now (a .row)) (now (a .v)) some (pre .0) (c .before .before .before .before .subtract .ensures))
 
-slice-aggregate-row-difference-2 : tie.Need-slice-aggregate-row-difference-2
-slice-aggregate-row-difference-2 c = search needs
+slice-relend-prefix-add : tie.Need-slice-relend-prefix-add
+slice-relend-prefix-add c = search needs
 
-row-difference-requires-2 : tie.Need-row-difference-requires-2
-row-difference-requires-2 c κs =
-    let a = c .before .before .before .before .before .before .before .before .before .before .before .before .before .before .before .before .before .before .before .before .args in
-    let m = c .before .before .before .before .before .before .before .before .before .before .before .before .before .before .before .before .before .before .before .before .pre .matrix in
-    let long = part-long (c .before .before .before .before .before .before .before) in
-    let small = first-small 128 (now (a .row)) (now (a .v)) (m .bounded) in
-    (omega (arith, long, m .row-long), omega (arith, long, m .row-long), omega (arith, small))
+slice-aggregate-add-2 : tie.Need-slice-aggregate-add-2
+slice-aggregate-add-2 c =
+    let a = c .before .before .before .before .before .before .before .before .before .before .before .before .before .before .before .before .before .before .before .before .before .before .before .args in
+    let pre = c .before .before .before .before .before .before .before .before .before .before .before .before .before .before .before .before .before .before .before .before .before .before .before .pre in
+    sym (first-long 64 (now (a .dst)) (pre .2))
+
+add-requires-2 : tie.Need-add-requires-2
+add-requires-2 c κs =
+    let a = c .before .before .before .before .before .before .before .before .before .before .before .before .before .before .before .before .before .before .before .before .before .before .before .args in
+    let pre = c .before .before .before .before .before .before .before .before .before .before .before .before .before .before .before .before .before .before .before .before .before .before .before .pre in (
+      first-long 64 (now (a .dst)) (pre .2),
+      middle-1 (c .before .before .before .before .before .before .before .before .before .before .before .before .before .before),
+      half-2 (c .before .before .before .before),
+      upper-small 64 (now (a .row)) (now (a .v)) some (pre .0) (c .before .before .before .before .before .before .before .before .before .subtract .ensures) (c .before .before .before .before .before .before .before .before .before .before .before .before .before .before .before .before .before .before .before .add .ensures) (c .before .before .before .before .before .before .before .before .before .before .before .before .before .before .toeplitz-64 .ensures) (c .before .before .before .before .toeplitz-642 .ensures),
+    )
 
 sub-toeplitz-64-3 : tie.Need-sub-toeplitz-64-3
 sub-toeplitz-64-3 c = search needs
@@ -142,100 +150,99 @@ part-toeplitz-64-start-3 c = search needs
 part-toeplitz-64-end-3 : tie.Need-part-toeplitz-64-end-3
 part-toeplitz-64-end-3 c = search needs
 
-slice-aggregate-toeplitz-64-5 : tie.Need-slice-aggregate-toeplitz-64-5
-slice-aggregate-toeplitz-64-5 c = search needs
-
-slice-aggregate-toeplitz-64-6 : tie.Need-slice-aggregate-toeplitz-64-6
-slice-aggregate-toeplitz-64-6 c = sym (first-long 64 (now (c .before .before .before .before .before .before .before .before .before .before .before .before .before .before .before .before .before .before .before .before .before .before .before .before .before .args .v)) (c .before .before .before .before .before .before .before .before .before .before .before .before .before .before .before .before .before .before .before .before .before .before .before .before .before .pre .matrix .vector-long))
+slice-aggregate-toeplitz-64-2 : tie.Need-slice-aggregate-toeplitz-64-2
+slice-aggregate-toeplitz-64-2 c =
+    let a = c .before .before .before .before .before .before .before .before .before .before .before .before .before .before .before .before .before .before .before .before .before .before .before .before .before .before .before .before .args in
+    let pre = c .before .before .before .before .before .before .before .before .before .before .before .before .before .before .before .before .before .before .before .before .before .before .before .before .before .before .before .before .pre in
+    sym (first-half 64 (now (a .row)) (now (a .v)) some (pre .0))
 
 toeplitz-64-requires-3 : tie.Need-toeplitz-64-requires-3
-toeplitz-64-requires-3 c κs = lower-sum 64 _ _ _ (c .before .before .before .before .before .before .before .toeplitz-642 .last .0) 128 (c .before .before .before .before .before .before .before .before .before .before .before .before .before .before .before .before .before .before .before .before .before .before .before .before .before .pre) (c .before .before .before .before .before .before .before .toeplitz-642 .kept .0) (below-is (c .before .before .before .before))
+toeplitz-64-requires-3 c κs =
+    let a = c .before .before .before .before .before .before .before .before .before .before .before .before .before .before .before .before .before .before .before .before .before .before .before .before .before .before .before .before .before .args in
+    let pre = c .before .before .before .before .before .before .before .before .before .before .before .before .before .before .before .before .before .before .before .before .before .before .before .before .before .before .before .before .before .pre in
+    (half-2 (c .before .before .before .before .before .before .before .before .before .before), lower-matrix 64 (now (a .row)) (now (a .v)) some (pre .0) (c .before .before .before .before .before .before .before .before .before .before .before .before .before .before .before .subtract .ensures))
 
-slice-relend-prefix-add : tie.Need-slice-relend-prefix-add
-slice-relend-prefix-add c = omega (arith, halves-long (c .before))
+sub-subtract-2 : tie.Need-sub-subtract-2
+sub-subtract-2 c =
+    omega (arith, dst-1 (c .before .before .before .before .before .before .before .before .before))
 
-slice-aggregate-add : tie.Need-slice-aggregate-add
-slice-aggregate-add c = sym (first-long 64 (halves (c .before .before)) (halves-long (c .before .before)))
+part-subtract-start-2 : tie.Need-part-subtract-start-2
+part-subtract-start-2 c =
+    omega (arith, dst-1 (c .before .before .before .before .before .before .before .before .before))
 
-slice-aggregate-add-2 : tie.Need-slice-aggregate-add-2
-slice-aggregate-add-2 c = search needs
+part-subtract-end-2 : tie.Need-part-subtract-end-2
+part-subtract-end-2 c = search needs
 
-add-requires : tie.Need-add-requires
-add-requires c κs =
-    let a = c .before .before .before .before .before .before .before .before .before .before .before .before .before .before .before .before .before .before .before .before .before .before .before .before .before .before .before .before .before .args in (
-      middle-long (c .before .before .before .before .before .before .before .before .before .before .before .before .before .before .before .before .before .before .before) ∙ sym (first-long 64 (halves (c .before .before .before)) (halves-long (c .before .before .before))),
-      upper-room 64 (now (a .acc)) (now (a .row)) (now (a .v)) (c .before .before .before .before .before .before .before .before .before .before .before .before .before .before .before .before .before .before .before .before .before .before .before .before .before .before .before .before .before .pre) (above-is (c .before .before .before .before .before .before .before .before .before .before .before .before .before .before .before .before)) (c .before .before .before .before .before .before .before .before .before .before .before .toeplitz-642 .ensures) (below-is (c .before .before .before .before .before .before .before .before)) (c .before .before .before .toeplitz-643 .ensures) (c .before .before .before .before .before .before .before .before .before .before .before .before .before .before .before .before .before .before .before .toeplitz-64 .last .0) (middle-small (c .before .before .before .before .before .before .before .before .before .before .before .before .before .before .before .before .before .before .before)),
-    )
-
-sub-add : tie.Need-sub-add
-sub-add c = omega (arith, whole-long (c .before))
-
-part-add-start : tie.Need-part-add-start
-part-add-start c = omega (arith, whole-long (c .before))
-
-part-add-end : tie.Need-part-add-end
-part-add-end c = search needs
-
-slice-aggregate-add-3 : tie.Need-slice-aggregate-add-3
-slice-aggregate-add-3 c = search needs
-
-add-requires-2 : tie.Need-add-requires-2
-add-requires-2 c κs =
-    let a = c .before .before .before .before .before .before .before .before .before .before .before .before .before .before .before .before .before .before .before .before .before .before .before .before .before .before .before .before .before .before .before .before .before .args in (
-      middle-long (c .before .before .before .before .before .before .before .before .before .before .before .before .before .before .before .before .before .before .before .before .before .before .before) ∙ sym (rest-long 64 (whole (c .before .before .before)) (whole-long (c .before .before .before))),
-      lower-room 64 (now (a .acc)) (now (a .row)) (now (a .v)) (c .before .before .before .before .before .before .before .before .before .before .before .before .before .before .before .before .before .before .before .before .before .before .before .before .before .before .before .before .before .before .before .before .before .pre) (above-is (c .before .before .before .before .before .before .before .before .before .before .before .before .before .before .before .before .before .before .before .before)) (c .before .before .before .before .before .before .before .before .before .before .before .before .before .before .before .toeplitz-642 .ensures) (below-is (c .before .before .before .before .before .before .before .before .before .before .before .before)) (c .before .before .before .before .before .before .before .toeplitz-643 .ensures) (c .before .before .before .before .before .before .before .before .before .before .before .before .before .before .before .before .before .before .before .before .before .before .before .toeplitz-64 .last .0) (c .before .before .before .add .last .0)
-          (c .before .before .before .add .kept .0 ∙ first-long 64 (halves (c .before .before .before .before .before .before .before)) (halves-long (c .before .before .before .before .before .before .before))) (middle-small (c .before .before .before .before .before .before .before .before .before .before .before .before .before .before .before .before .before .before .before .before .before .before .before)),
+subtract-requires-2 : tie.Need-subtract-requires-2
+subtract-requires-2 c κs =
+    let a = c .before .before .before .before .before .before .before .before .before .before .before .before .before .before .before .before .before .before .before .before .before .before .before .before .before .before .before .before .before .before .before .before .before .before .args in
+    let pre = c .before .before .before .before .before .before .before .before .before .before .before .before .before .before .before .before .before .before .before .before .before .before .before .before .before .before .before .before .before .before .before .before .before .before .pre in
+    let middle = middle-1 (c .before .before .before .before .before .before .before .before .before .before .before .before .before .before .before .before .before .before .before .before .before .before .before .before .before) in
+    let low = half-3 (c .before .before .before .before) in (
+      rest-long 64 (c .before .before .before .before .before .before .before .before .before .before .add2 .last .1 .1 .1 .0 ++ drop 64 (now (a .dst))) (dst-1 (c .before .before .before .before .before .before .before .before .before .before)),
+      omega arith,
+      omega arith,
+      lower-small 64 (now (a .row)) (now (a .v)) some (pre .0) (c .before .before .before .before .before .before .before .before .before .before .before .before .before .before .before .before .before .before .before .before .subtract .ensures) (c .before .before .before .before .before .before .before .before .before .before .before .before .before .before .before .before .before .before .before .before .before .before .before .before .before .before .before .before .before .before .add .ensures) (c .before .before .before .before .before .before .before .before .before .before .before .before .before .before .before .before .before .before .before .before .before .before .before .before .before .toeplitz-64 .ensures) (c .before .before .before .before .toeplitz-643 .ensures),
     )
 
 same-length : tie.Need-same-length
-same-length c = search needs
+same-length c =
+    let pre = c .before .before .before .before .before .before .before .before .before .before .before .before .before .before .before .before .before .before .before .before .before .before .before .before .before .before .before .before .before .before .before .before .before .before .before .before .pre in
+    half-3 (c .before .before .before .before .before .before) ∙ sym (pre .1 .half-long)
+
+same-length-2 : tie.Need-same-length-2
+same-length-2 c = search needs
+
+same-length-3 : tie.Need-same-length-3
+same-length-3 c = search needs
+
+same-length-4 : tie.Need-same-length-4
+same-length-4 c = search needs
 
 returns : tie.Need-returns
 returns c =
-    let a = c .before .before .before .before .before .before .before .before .before .before .before .before .before .before .before .before .before .before .before .before .before .before .before .before .before .before .before .before .before .before .before .before .before .before .before .args in
-    halves-joined 64 (now (a .acc)) (now (a .row)) (now (a .v)) (c .before .before .before .before .before .before .before .before .before .before .before .before .before .before .before .before .before .before .before .before .before .before .before .before .before .before .before .before .before .before .before .before .before .before .before .pre) (above-is (c .before .before .before .before .before .before .before .before .before .before .before .before .before .before .before .before .before .before .before .before .before .before)) (c .before .before .before .before .before .before .before .before .before .before .before .before .before .before .before .before .before .toeplitz-642 .ensures) (below-is (c .before .before .before .before .before .before .before .before .before .before .before .before .before .before)) (c .before .before .before .before .before .before .before .before .before .toeplitz-643 .ensures) (c .before .before .before .before .before .before .before .before .before .before .before .before .before .before .before .before .before .before .before .before .before .before .before .before .before .before .before .before .before .before .before .before .before .zeros-64 .ensures) (both-is (c .before .before .before .before .before .before .before .before .before .before .before .before .before .before .before .before .before .before .before .before .before .before .before .before .before .before .before .before .before .before)) (c .before .before .before .before .before .before .before .before .before .before .before .before .before .before .before .before .before .before .before .before .before .before .before .before .before .toeplitz-64 .ensures)
-    (c .before .before .before .before .before .add .ensures) (c .before .add2 .ensures)
+    let a = c .before .before .before .before .before .before .before .before .before .before .before .before .before .before .before .before .before .before .before .before .before .before .before .before .before .before .before .before .before .before .before .before .before .before .before .before .args in
+    let pre = c .before .before .before .before .before .before .before .before .before .before .before .before .before .before .before .before .before .before .before .before .before .before .before .before .before .before .before .before .before .before .before .before .before .before .before .before .pre in
+    halves-joined 64 (now (a .row)) (now (a .v)) some (pre .0) (c .before .before .before .before .before .before .before .before .before .before .before .before .before .before .before .before .before .before .before .before .before .before .subtract .ensures) (c .before .before .before .before .before .before .before .before .before .before .before .before .before .before .before .before .before .before .before .before .before .before .before .before .before .before .before .before .before .before .before .before .add .ensures) (c .before .before .before .before .before .before .before .before .before .before .before .before .before .before .before .before .before .before .before .before .before .before .before .before .before .before .before .toeplitz-64 .ensures) (now (a .dst)) (c .before .before .before .before .before .before .before .before .before .before .before .before .before .before .before .before .before .toeplitz-642 .ensures) (c .before .before .before .before .before .before .toeplitz-643 .ensures) (c .before .before .before .before .before .before .before .before .before .before .before .before .add2 .ensures) (c .before .subtract2 .ensures)
 
 pub toeplitz-128-spec : {M : Type 1} → statement M
 toeplitz-128-spec =
     tie.close
     (tie.spec
-    words-64-requires
-    zeros-64-requires
-    words-128-requires
-    slice-aggregate-fold
-    fold-requires
-    slice-aggregate-toeplitz-64
+    slice-aggregate-add
+    sub-add
+    part-add-start
+    part-add-end
+    add-requires
     sub-toeplitz-64
     part-toeplitz-64-start
     part-toeplitz-64-end
-    slice-aggregate-toeplitz-64-2
     toeplitz-64-requires
-    slice-aggregate-row-difference
-    row-difference-requires
-    slice-relend-prefix-toeplitz-64
-    slice-aggregate-toeplitz-64-3
-    slice-aggregate-toeplitz-64-4
+    slice-aggregate-subtract
+    sub-subtract
+    part-subtract-start
+    part-subtract-end
+    subtract-requires
+    slice-reshare-prefix-toeplitz-64
+    slice-aggregate-toeplitz-64
     sub-toeplitz-64-2
     part-toeplitz-64-start-2
     part-toeplitz-64-end-2
     toeplitz-64-requires-2
-    slice-aggregate-row-difference-2
-    row-difference-requires-2
+    slice-relend-prefix-add
+    slice-aggregate-add-2
+    add-requires-2
     sub-toeplitz-64-3
     part-toeplitz-64-start-3
     part-toeplitz-64-end-3
-    slice-aggregate-toeplitz-64-5
-    slice-aggregate-toeplitz-64-6
+    slice-aggregate-toeplitz-64-2
     toeplitz-64-requires-3
-    slice-relend-prefix-add
-    slice-aggregate-add
-    slice-aggregate-add-2
-    add-requires
-    sub-add
-    part-add-start
-    part-add-end
-    slice-aggregate-add-3
-    add-requires-2
+    sub-subtract-2
+    part-subtract-start-2
+    part-subtract-end-2
+    subtract-requires-2
     same-length
+    same-length-2
+    same-length-3
+    same-length-4
     returns)

@@ -1,77 +1,95 @@
 -- `signed_product::halves::toeplitz_256` meets its contract: the three products of half the length make up the whole.
 -- Assumes nothing.
-use mathlib.Core.Path.{_≡_, sym, ap, _∙_}
-use mathlib.Core.List.{List, _++_}
-use Prim.Native.Nat.{ℕ, _≤_}
+use mathlib.Core.Path.{_≡_, sym, _∙_}
+use mathlib.Core.List.{_++_}
+use Prim.Native.Nat.{_<_, zero-le, suc-le-suc}
 use native.Mathlib.Omega.{arith}
 use borrow.Author.Needs.{needs}
 use denote.Ref.{now}
-use lib.IntN.{ℤ}
 use lib.ListN.{length, drop}
-use Rattle.ring.specs.Integers.{largest}
-use Rattle.product.proofs.Joining.{putRest, first-long, rest-long, front-long, replaced-long}
-use Rattle.signed_product.specs.Halves.{folded, rowDifference}
-use Rattle.signed_product.proofs.Small.{first-small, second-small}
-use Rattle.signed_product.proofs.Joining.{zeros-long, middle-sum, upper-sum, lower-sum, middle-size, upper-room, lower-room, halves-joined}
+use Rattle.product.proofs.Joining.{first-long, rest-long, replaced-long, front-long as front-filled}
+use Rattle.signed_product.specs.Toeplitz.{Rooms}
+use Rattle.signed_product.proofs.Small.{kept-rooms}
+use Rattle.signed_product.proofs.Joining.{first-half, second-half, front-long, back-long, both-small, rows-small, middle-matrix, upper-matrix, lower-matrix, upper-small, lower-small, halves-joined}
 use Rattle.signed_product.proofs.halves.toeplitz_256.Statement.{statement}
 use Rattle.signed_product.proofs.halves.toeplitz_256.Tie as tie
 
--- The folded vector, and the two parts of the row.
-both-is : (c : tie.After-fold) → c .fold .last .1 .0 ≡ folded 128 (now (c .before .before .before .before .before .args .v))
-both-is c = c .fold .ensures ∙ ap (λ (m : ℕ). folded m (now (c .before .before .before .before .before .args .v))) (zeros-long (c .before .before .before .before .words-128 .ensures))
+some : 0 < 128
+some = suc-le-suc zero-le
 
-above-is : (c : tie.After-row-difference) → c .row-difference .last .1 .1 .1 .0 ≡ rowDifference 0 128 256 (now (c .before .before .before .before .before .before .before .before .before .before .before .before .before .args .row))
-above-is c = c .row-difference .ensures ∙ ap (λ (m : ℕ). rowDifference 0 128 m (now (c .before .before .before .before .before .before .before .before .before .before .before .before .before .args .row))) (zeros-long (c .before .before .before .before .before .before .before .before .before .before .words-256 .ensures))
+-- The room for the sum of the halves, which then holds the upper product and the lower one.
+half-1 : (c : tie.After-add) → length (c .add .last .1 .1 .1 .0) ≡ 128
+half-1 c =
+    let pre = c .before .before .before .before .before .before .before .pre in
+    c .add .kept .1 .1 .1 .0 ∙ pre .1 .half-long
 
-part-long : (c : tie.After-row-difference) → length (c .row-difference .last .1 .1 .1 .0) ≡ 256
-part-long c = c .row-difference .kept .1 .1 .1 .0 ∙ zeros-long (c .before .before .before .before .before .before .before .before .before .before .words-256 .ensures)
+half-2 : (c : tie.After-toeplitz-1282) → length (c .toeplitz-1282 .last .1 .1 .1 .1 .1 .0) ≡ 128
+half-2 c =
+    c .toeplitz-1282 .kept .1 .1 .1 .1 .1 .0 ∙ half-1 (c .before .before .before .before .before .before .before .before .before .before .before .before .before .before .before .before .before .before .before .before .before .before .before .before)
 
-below-is : (c : tie.After-row-difference2) → c .row-difference2 .last .1 .1 .1 .0 ≡ rowDifference 256 128 256 (now (c .before .before .before .before .before .before .before .before .before .before .before .before .before .before .before .before .before .before .before .before .before .args .row))
-below-is c = c .row-difference2 .ensures ∙ ap (λ (m : ℕ). rowDifference 256 128 m (now (c .before .before .before .before .before .before .before .before .before .before .before .before .before .before .before .before .before .before .before .before .before .args .row))) (part-long (c .before .before .before .before .before .before .before .before))
+half-3 : (c : tie.After-toeplitz-1283) → length (c .toeplitz-1283 .last .1 .1 .1 .1 .1 .0) ≡ 128
+half-3 c =
+    c .toeplitz-1283 .kept .1 .1 .1 .1 .1 .0 ∙ half-2 (c .before .before .before .before .before .before .before .before .before .before .before .before .before .before .before .before .before)
 
--- The length and the size of the middle product.
-middle-long : (c : tie.After-toeplitz-128) → length (c .toeplitz-128 .last .0) ≡ 128
-middle-long c = c .toeplitz-128 .kept .0 ∙ zeros-long (c .before .before .before .before .before .before .before .before .zeros-128 .ensures)
+-- The middle product, the differences of rows, and what is in the place of the whole once its first half is there.
+middle-1 : (c : tie.After-toeplitz-128) → length (c .toeplitz-128 .last .1 .1 .1 .1 .1 .0) ≡ 128
+middle-1 c =
+    let pre = c .before .before .before .before .before .before .before .before .before .before .before .before .before .before .before .pre in
+    c .toeplitz-128 .kept .1 .1 .1 .1 .1 .0 ∙ pre .1 .middle-long
 
-middle-small : (c : tie.After-toeplitz-128) → largest (c .toeplitz-128 .last .0) ≤ 32768
-middle-small c =
-    let a = c .before .before .before .before .before .before .before .before .before .before .args in
-    middle-size 128 (now (a .acc)) (now (a .row)) (now (a .v)) (c .before .before .before .before .before .before .before .before .before .before .pre) (c .before .before .before .before .before .before .before .before .zeros-128 .ensures) (both-is (c .before .before .before .before .before)) (c .toeplitz-128 .ensures)
+part-1 : (c : tie.After-subtract) → length (c .subtract .last .1 .1 .1 .0) ≡ 384
+part-1 c =
+    let pre = c .before .before .before .before .before .before .before .before .before .before .before .before .before .before .before .before .before .before .before .before .before .before .before .pre in
+    c .subtract .kept .1 .1 .1 .0 ∙ pre .1 .part-long
 
--- The sum after both products of its halves.
-abbrev halves : tie.After-toeplitz-1283 → List ℤ
-halves c = putRest 128 (c .toeplitz-1283 .last .0) (c .before .before .before .before .before .before .before .before .toeplitz-1282 .last .0 ++ drop 128 (now (c .before .before .before .before .before .before .before .before .before .before .before .before .before .before .before .before .before .before .before .before .before .before .before .before .before .before .args .acc)))
+dst-1 : (c : tie.After-add2) → length (c .add2 .last .1 .1 .1 .0 ++ drop 128 (now (c .before .before .before .before .before .before .before .before .before .before .before .before .before .before .before .before .before .before .before .before .before .before .before .before .before .before .before .before .before .before .before .before .before .before .before .before .before .before .before .args .dst))) ≡ 256
+dst-1 c =
+    let a = c .before .before .before .before .before .before .before .before .before .before .before .before .before .before .before .before .before .before .before .before .before .before .before .before .before .before .before .before .before .before .before .before .before .before .before .before .before .before .before .args in
+    let pre = c .before .before .before .before .before .before .before .before .before .before .before .before .before .before .before .before .before .before .before .before .before .before .before .before .before .before .before .before .before .before .before .before .before .before .before .before .before .before .before .pre in
+    front-filled 128 (now (a .dst)) (c .add2 .last .1 .1 .1 .0) (pre .2) (c .add2 .kept .1 .1 .1 .0)
 
-halves-long : (c : tie.After-toeplitz-1283) → length (halves c) ≡ 256
-halves-long c = replaced-long 128 (now (c .before .before .before .before .before .before .before .before .before .before .before .before .before .before .before .before .before .before .before .before .before .before .before .before .before .before .args .acc)) (c .before .before .before .before .before .before .before .before .toeplitz-1282 .last .0) (c .toeplitz-1283 .last .0) (c .before .before .before .before .before .before .before .before .before .before .before .before .before .before .before .before .before .before .before .before .before .before .before .before .before .before .pre .sum-long) (c .before .before .before .before .before .before .before .before .toeplitz-1282 .kept .0) (c .toeplitz-1283 .kept .0)
+-- The rooms for half the length, before and after each product.
+rooms-0 : (c : tie.After-words-192) → Rooms 64 (c .before .before .words-64 .result) (c .before .words-642 .result) (c .words-192 .result)
+rooms-0 c =
+    record { half-long = search needs; middle-long = search needs; part-long = search needs }
 
--- The same with the middle product in its upper half.
-abbrev whole : tie.After-add → List ℤ
-whole c = c .add .last .0 ++ drop 128 (halves (c .before .before .before .before))
+rooms-1 : (c : tie.After-toeplitz-128) → Rooms 64 (c .toeplitz-128 .last .1 .1 .0) (c .toeplitz-128 .last .1 .1 .1 .0) (c .toeplitz-128 .last .1 .1 .1 .1 .0)
+rooms-1 c =
+    kept-rooms (rooms-0 (c .before .before .before .before .before .before .before .before .before .before .before .before)) (c .toeplitz-128 .kept .1 .1 .0) (c .toeplitz-128 .kept .1 .1 .1 .0) (c .toeplitz-128 .kept .1 .1 .1 .1 .0)
 
-whole-long : (c : tie.After-add) → length (whole c) ≡ 256
-whole-long c = front-long 128 (halves (c .before .before .before .before)) (c .add .last .0) (halves-long (c .before .before .before .before)) (c .add .kept .0)
+rooms-2 : (c : tie.After-toeplitz-1282) → Rooms 64 (c .toeplitz-1282 .last .1 .1 .0) (c .toeplitz-1282 .last .1 .1 .1 .0) (c .toeplitz-1282 .last .1 .1 .1 .1 .0)
+rooms-2 c =
+    kept-rooms (rooms-1 (c .before .before .before .before .before .before .before .before .before .before .before .before .before .before .before .before)) (c .toeplitz-1282 .kept .1 .1 .0) (c .toeplitz-1282 .kept .1 .1 .1 .0) (c .toeplitz-1282 .kept .1 .1 .1 .1 .0)
 
-words-128-requires : tie.Need-words-128-requires
-words-128-requires c κs = search needs
+words-64-requires : tie.Need-words-64-requires
+words-64-requires c κs = search needs
 
-zeros-128-requires : tie.Need-zeros-128-requires
-zeros-128-requires c κs = search needs
+words-64-requires-2 : tie.Need-words-64-requires-2
+words-64-requires-2 c κs = search needs
 
-words-256-requires : tie.Need-words-256-requires
-words-256-requires c κs = search needs
+words-192-requires : tie.Need-words-192-requires
+words-192-requires c κs = search needs
 
-slice-aggregate-fold : tie.Need-slice-aggregate-fold
-slice-aggregate-fold c = search needs
-
-fold-requires : tie.Need-fold-requires
-fold-requires c κs =
+slice-aggregate-add : tie.Need-slice-aggregate-add
+slice-aggregate-add c =
     let a = c .before .before .before .before .args in
-    let m = c .before .before .before .before .pre .matrix in
-    (omega (arith, m .vector-long, zeros-long {n = 128} (c .before .before .before .words-128 .ensures)), omega (arith, second-small 256 (now (a .row)) (now (a .v)) (m .bounded)))
+    let pre = c .before .before .before .before .pre in
+    sym (first-half 128 (now (a .row)) (now (a .v)) some (pre .0))
 
-slice-aggregate-toeplitz-128 : tie.Need-slice-aggregate-toeplitz-128
-slice-aggregate-toeplitz-128 c = search needs
+sub-add : tie.Need-sub-add
+sub-add c = search needs
+
+part-add-start : tie.Need-part-add-start
+part-add-start c = search needs
+
+part-add-end : tie.Need-part-add-end
+part-add-end c = search needs
+
+add-requires : tie.Need-add-requires
+add-requires c κs =
+    let a = c .before .before .before .before .before .before .args in
+    let pre = c .before .before .before .before .before .before .pre in
+    (pre .1 .half-long, first-half 128 (now (a .row)) (now (a .v)) some (pre .0), second-half 128 (now (a .row)) (now (a .v)) some (pre .0), both-small 128 (now (a .row)) (now (a .v)) some (pre .0))
 
 sub-toeplitz-128 : tie.Need-sub-toeplitz-128
 sub-toeplitz-128 c = search needs
@@ -82,33 +100,50 @@ part-toeplitz-128-start c = search needs
 part-toeplitz-128-end : tie.Need-part-toeplitz-128-end
 part-toeplitz-128-end c = search needs
 
+slice-aggregate-toeplitz-128 : tie.Need-slice-aggregate-toeplitz-128
+slice-aggregate-toeplitz-128 c = search needs
+
 slice-aggregate-toeplitz-128-2 : tie.Need-slice-aggregate-toeplitz-128-2
 slice-aggregate-toeplitz-128-2 c = search needs
 
+slice-aggregate-toeplitz-128-3 : tie.Need-slice-aggregate-toeplitz-128-3
+slice-aggregate-toeplitz-128-3 c = search needs
+
 toeplitz-128-requires : tie.Need-toeplitz-128-requires
 toeplitz-128-requires c κs =
-    let a = c .before .before .before .before .before .before .before .before .before .args in
-    middle-sum 128 (now (a .acc)) (now (a .row)) (now (a .v)) (c .before .before .before .before .before .before .before .before .before .pre) (c .before .before .before .before .before .before .before .zeros-128 .ensures) (both-is (c .before .before .before .before))
+    let a = c .before .before .before .before .before .before .before .before .before .before .before .before .before .before .args in
+    let pre = c .before .before .before .before .before .before .before .before .before .before .before .before .before .before .pre in
+    (middle-matrix 128 (now (a .row)) (now (a .v)) some (pre .0) (c .before .before .before .before .before .before .before .add .ensures), rooms-0 (c .before .before .before .before .before .before .before .before .before .before .before), pre .1 .middle-long)
 
-slice-aggregate-row-difference : tie.Need-slice-aggregate-row-difference
-slice-aggregate-row-difference c = search needs
+slice-aggregate-subtract : tie.Need-slice-aggregate-subtract
+slice-aggregate-subtract c =
+    let a = c .before .before .before .before .before .before .before .before .before .before .before .before .before .before .before .before .before .before .before .before .args in
+    let pre = c .before .before .before .before .before .before .before .before .before .before .before .before .before .before .before .before .before .before .before .before .pre in
+    sym (front-long 128 (now (a .row)) (now (a .v)) some (pre .0))
 
-row-difference-requires : tie.Need-row-difference-requires
-row-difference-requires c κs =
-    let a = c .before .before .before .before .before .before .before .before .before .before .before .before .args in
-    let m = c .before .before .before .before .before .before .before .before .before .before .before .before .pre .matrix in
-    let long = zeros-long {n = 256} (c .before .before .before .before .before .before .before .before .before .words-256 .ensures) in
-    let small = first-small 256 (now (a .row)) (now (a .v)) (m .bounded) in
-    (omega (arith, long, m .row-long), omega (arith, long, m .row-long), omega (arith, small))
+sub-subtract : tie.Need-sub-subtract
+sub-subtract c = search needs
 
-slice-relend-prefix-toeplitz-128 : tie.Need-slice-relend-prefix-toeplitz-128
-slice-relend-prefix-toeplitz-128 c = search needs
+part-subtract-start : tie.Need-part-subtract-start
+part-subtract-start c = search needs
 
-slice-aggregate-toeplitz-128-3 : tie.Need-slice-aggregate-toeplitz-128-3
-slice-aggregate-toeplitz-128-3 c = sym (first-long 128 (now (c .before .before .before .before .before .before .before .before .before .before .before .before .before .before .before .args .acc)) (c .before .before .before .before .before .before .before .before .before .before .before .before .before .before .before .pre .sum-long))
+part-subtract-end : tie.Need-part-subtract-end
+part-subtract-end c = search needs
+
+subtract-requires : tie.Need-subtract-requires
+subtract-requires c κs =
+    let a = c .before .before .before .before .before .before .before .before .before .before .before .before .before .before .before .before .before .before .before .before .before .before .args in
+    let pre = c .before .before .before .before .before .before .before .before .before .before .before .before .before .before .before .before .before .before .before .before .before .before .pre in
+    (pre .1 .part-long, front-long 128 (now (a .row)) (now (a .v)) some (pre .0), back-long 128 (now (a .row)) (now (a .v)) some (pre .0), rows-small 128 (now (a .row)) (now (a .v)) some (pre .0))
+
+slice-reshare-prefix-toeplitz-128 : tie.Need-slice-reshare-prefix-toeplitz-128
+slice-reshare-prefix-toeplitz-128 c = search needs
 
 slice-aggregate-toeplitz-128-4 : tie.Need-slice-aggregate-toeplitz-128-4
-slice-aggregate-toeplitz-128-4 c = search needs
+slice-aggregate-toeplitz-128-4 c =
+    let a = c .before .before .before .before .before .before .before .before .before .before .before .before .before .before .before .before .before .before .before .before .before .before .before .before .before .args in
+    let pre = c .before .before .before .before .before .before .before .before .before .before .before .before .before .before .before .before .before .before .before .before .before .before .before .before .before .pre in
+    sym (upper-matrix 128 (now (a .row)) (now (a .v)) some (pre .0) (c .before .before .subtract .ensures) .row-long)
 
 sub-toeplitz-128-2 : tie.Need-sub-toeplitz-128-2
 sub-toeplitz-128-2 c = search needs
@@ -119,123 +154,172 @@ part-toeplitz-128-start-2 c = search needs
 part-toeplitz-128-end-2 : tie.Need-part-toeplitz-128-end-2
 part-toeplitz-128-end-2 c = search needs
 
-toeplitz-128-requires-2 : tie.Need-toeplitz-128-requires-2
-toeplitz-128-requires-2 c κs = upper-sum 128 _ _ _ 0 (c .before .before .before .before .before .before .before .before .before .before .before .before .before .before .before .before .before .pre) (above-is (c .before .before .before .before))
-
-slice-aggregate-row-difference-2 : tie.Need-slice-aggregate-row-difference-2
-slice-aggregate-row-difference-2 c = search needs
-
-row-difference-requires-2 : tie.Need-row-difference-requires-2
-row-difference-requires-2 c κs =
-    let a = c .before .before .before .before .before .before .before .before .before .before .before .before .before .before .before .before .before .before .before .before .args in
-    let m = c .before .before .before .before .before .before .before .before .before .before .before .before .before .before .before .before .before .before .before .before .pre .matrix in
-    let long = part-long (c .before .before .before .before .before .before .before) in
-    let small = first-small 256 (now (a .row)) (now (a .v)) (m .bounded) in
-    (omega (arith, long, m .row-long), omega (arith, long, m .row-long), omega (arith, small))
-
-sub-toeplitz-128-3 : tie.Need-sub-toeplitz-128-3
-sub-toeplitz-128-3 c = search needs
-
-part-toeplitz-128-start-3 : tie.Need-part-toeplitz-128-start-3
-part-toeplitz-128-start-3 c = search needs
-
-part-toeplitz-128-end-3 : tie.Need-part-toeplitz-128-end-3
-part-toeplitz-128-end-3 c = search needs
-
 slice-aggregate-toeplitz-128-5 : tie.Need-slice-aggregate-toeplitz-128-5
 slice-aggregate-toeplitz-128-5 c = search needs
 
 slice-aggregate-toeplitz-128-6 : tie.Need-slice-aggregate-toeplitz-128-6
-slice-aggregate-toeplitz-128-6 c = sym (first-long 128 (now (c .before .before .before .before .before .before .before .before .before .before .before .before .before .before .before .before .before .before .before .before .before .before .before .before .before .args .v)) (c .before .before .before .before .before .before .before .before .before .before .before .before .before .before .before .before .before .before .before .before .before .before .before .before .before .pre .matrix .vector-long))
+slice-aggregate-toeplitz-128-6 c = search needs
 
-toeplitz-128-requires-3 : tie.Need-toeplitz-128-requires-3
-toeplitz-128-requires-3 c κs = lower-sum 128 _ _ _ (c .before .before .before .before .before .before .before .toeplitz-1282 .last .0) 256 (c .before .before .before .before .before .before .before .before .before .before .before .before .before .before .before .before .before .before .before .before .before .before .before .before .before .pre) (c .before .before .before .before .before .before .before .toeplitz-1282 .kept .0) (below-is (c .before .before .before .before))
+slice-aggregate-toeplitz-128-7 : tie.Need-slice-aggregate-toeplitz-128-7
+slice-aggregate-toeplitz-128-7 c = search needs
+
+toeplitz-128-requires-2 : tie.Need-toeplitz-128-requires-2
+toeplitz-128-requires-2 c κs =
+    let a = c .before .before .before .before .before .before .before .before .before .before .before .before .before .before .before .before .before .before .before .before .before .before .before .before .before .before .before .before .before .before .args in
+    let pre = c .before .before .before .before .before .before .before .before .before .before .before .before .before .before .before .before .before .before .before .before .before .before .before .before .before .before .before .before .before .before .pre in
+    (upper-matrix 128 (now (a .row)) (now (a .v)) some (pre .0) (c .before .before .before .before .before .before .before .subtract .ensures), rooms-1 (c .before .before .before .before .before .before .before .before .before .before .before .before .before .before .before), half-1 (c .before .before .before .before .before .before .before .before .before .before .before .before .before .before .before .before .before .before .before .before .before .before .before))
 
 slice-relend-prefix-add : tie.Need-slice-relend-prefix-add
-slice-relend-prefix-add c = omega (arith, halves-long (c .before))
-
-slice-aggregate-add : tie.Need-slice-aggregate-add
-slice-aggregate-add c = sym (first-long 128 (halves (c .before .before)) (halves-long (c .before .before)))
+slice-relend-prefix-add c =
+    let pre = c .before .before .before .before .before .before .before .before .before .before .before .before .before .before .before .before .before .before .before .before .before .before .before .before .before .before .before .before .before .before .before .before .before .before .before .before .before .pre in
+    omega (arith, pre .2)
 
 slice-aggregate-add-2 : tie.Need-slice-aggregate-add-2
-slice-aggregate-add-2 c = search needs
-
-add-requires : tie.Need-add-requires
-add-requires c κs =
-    let a = c .before .before .before .before .before .before .before .before .before .before .before .before .before .before .before .before .before .before .before .before .before .before .before .before .before .before .before .before .before .args in (
-      middle-long (c .before .before .before .before .before .before .before .before .before .before .before .before .before .before .before .before .before .before .before) ∙ sym (first-long 128 (halves (c .before .before .before)) (halves-long (c .before .before .before))),
-      upper-room 128 (now (a .acc)) (now (a .row)) (now (a .v)) (c .before .before .before .before .before .before .before .before .before .before .before .before .before .before .before .before .before .before .before .before .before .before .before .before .before .before .before .before .before .pre) (above-is (c .before .before .before .before .before .before .before .before .before .before .before .before .before .before .before .before)) (c .before .before .before .before .before .before .before .before .before .before .before .toeplitz-1282 .ensures) (below-is (c .before .before .before .before .before .before .before .before)) (c .before .before .before .toeplitz-1283 .ensures) (c .before .before .before .before .before .before .before .before .before .before .before .before .before .before .before .before .before .before .before .toeplitz-128 .last .0) (middle-small (c .before .before .before .before .before .before .before .before .before .before .before .before .before .before .before .before .before .before .before)),
-    )
-
-sub-add : tie.Need-sub-add
-sub-add c = omega (arith, whole-long (c .before))
-
-part-add-start : tie.Need-part-add-start
-part-add-start c = omega (arith, whole-long (c .before))
-
-part-add-end : tie.Need-part-add-end
-part-add-end c = search needs
-
-slice-aggregate-add-3 : tie.Need-slice-aggregate-add-3
-slice-aggregate-add-3 c = search needs
+slice-aggregate-add-2 c =
+    let a = c .before .before .before .before .before .before .before .before .before .before .before .before .before .before .before .before .before .before .before .before .before .before .before .before .before .before .before .before .before .before .before .before .before .before .before .before .before .before .args in
+    let pre = c .before .before .before .before .before .before .before .before .before .before .before .before .before .before .before .before .before .before .before .before .before .before .before .before .before .before .before .before .before .before .before .before .before .before .before .before .before .before .pre in
+    sym (first-long 128 (now (a .dst)) (pre .2))
 
 add-requires-2 : tie.Need-add-requires-2
 add-requires-2 c κs =
-    let a = c .before .before .before .before .before .before .before .before .before .before .before .before .before .before .before .before .before .before .before .before .before .before .before .before .before .before .before .before .before .before .before .before .before .args in (
-      middle-long (c .before .before .before .before .before .before .before .before .before .before .before .before .before .before .before .before .before .before .before .before .before .before .before) ∙ sym (rest-long 128 (whole (c .before .before .before)) (whole-long (c .before .before .before))),
-      lower-room 128 (now (a .acc)) (now (a .row)) (now (a .v)) (c .before .before .before .before .before .before .before .before .before .before .before .before .before .before .before .before .before .before .before .before .before .before .before .before .before .before .before .before .before .before .before .before .before .pre) (above-is (c .before .before .before .before .before .before .before .before .before .before .before .before .before .before .before .before .before .before .before .before)) (c .before .before .before .before .before .before .before .before .before .before .before .before .before .before .before .toeplitz-1282 .ensures) (below-is (c .before .before .before .before .before .before .before .before .before .before .before .before)) (c .before .before .before .before .before .before .before .toeplitz-1283 .ensures) (c .before .before .before .before .before .before .before .before .before .before .before .before .before .before .before .before .before .before .before .before .before .before .before .toeplitz-128 .last .0) (c .before .before .before .add .last .0)
-          (c .before .before .before .add .kept .0 ∙ first-long 128 (halves (c .before .before .before .before .before .before .before)) (halves-long (c .before .before .before .before .before .before .before))) (middle-small (c .before .before .before .before .before .before .before .before .before .before .before .before .before .before .before .before .before .before .before .before .before .before .before)),
+    let a = c .before .before .before .before .before .before .before .before .before .before .before .before .before .before .before .before .before .before .before .before .before .before .before .before .before .before .before .before .before .before .before .before .before .before .before .before .before .before .args in
+    let pre = c .before .before .before .before .before .before .before .before .before .before .before .before .before .before .before .before .before .before .before .before .before .before .before .before .before .before .before .before .before .before .before .before .before .before .before .before .before .before .pre in (
+      first-long 128 (now (a .dst)) (pre .2),
+      middle-1 (c .before .before .before .before .before .before .before .before .before .before .before .before .before .before .before .before .before .before .before .before .before .before .before),
+      half-2 (c .before .before .before .before .before .before .before),
+      upper-small 128 (now (a .row)) (now (a .v)) some (pre .0) (c .before .before .before .before .before .before .before .before .before .before .before .before .before .before .before .subtract .ensures) (c .before .before .before .before .before .before .before .before .before .before .before .before .before .before .before .before .before .before .before .before .before .before .before .before .before .before .before .before .before .before .before .add .ensures) (c .before .before .before .before .before .before .before .before .before .before .before .before .before .before .before .before .before .before .before .before .before .before .before .toeplitz-128 .ensures) (c .before .before .before .before .before .before .before .toeplitz-1282 .ensures),
+    )
+
+sub-toeplitz-128-3 : tie.Need-sub-toeplitz-128-3
+sub-toeplitz-128-3 c =
+    omega (arith, part-1 (c .before .before .before .before .before .before .before .before .before .before .before .before .before .before .before .before .before))
+
+part-toeplitz-128-start-3 : tie.Need-part-toeplitz-128-start-3
+part-toeplitz-128-start-3 c =
+    omega (arith, part-1 (c .before .before .before .before .before .before .before .before .before .before .before .before .before .before .before .before .before .before))
+
+part-toeplitz-128-end-3 : tie.Need-part-toeplitz-128-end-3
+part-toeplitz-128-end-3 c = search needs
+
+slice-aggregate-toeplitz-128-8 : tie.Need-slice-aggregate-toeplitz-128-8
+slice-aggregate-toeplitz-128-8 c =
+    let a = c .before .before .before .before .before .before .before .before .before .before .before .before .before .before .before .before .before .before .before .before .before .before .before .before .before .before .before .before .before .before .before .before .before .before .before .before .before .before .before .before .before .before .before .args in
+    let pre = c .before .before .before .before .before .before .before .before .before .before .before .before .before .before .before .before .before .before .before .before .before .before .before .before .before .before .before .before .before .before .before .before .before .before .before .before .before .before .before .before .before .before .before .pre in
+    sym (first-half 128 (now (a .row)) (now (a .v)) some (pre .0))
+
+slice-aggregate-toeplitz-128-9 : tie.Need-slice-aggregate-toeplitz-128-9
+slice-aggregate-toeplitz-128-9 c = search needs
+
+slice-aggregate-toeplitz-128-10 : tie.Need-slice-aggregate-toeplitz-128-10
+slice-aggregate-toeplitz-128-10 c = search needs
+
+slice-aggregate-toeplitz-128-11 : tie.Need-slice-aggregate-toeplitz-128-11
+slice-aggregate-toeplitz-128-11 c = search needs
+
+toeplitz-128-requires-3 : tie.Need-toeplitz-128-requires-3
+toeplitz-128-requires-3 c κs =
+    let a = c .before .before .before .before .before .before .before .before .before .before .before .before .before .before .before .before .before .before .before .before .before .before .before .before .before .before .before .before .before .before .before .before .before .before .before .before .before .before .before .before .before .before .before .before .before .before .before .args in
+    let pre = c .before .before .before .before .before .before .before .before .before .before .before .before .before .before .before .before .before .before .before .before .before .before .before .before .before .before .before .before .before .before .before .before .before .before .before .before .before .before .before .before .before .before .before .before .before .before .before .pre in
+    (lower-matrix 128 (now (a .row)) (now (a .v)) some (pre .0) (c .before .before .before .before .before .before .before .before .before .before .before .before .before .before .before .before .before .before .before .before .before .before .before .before .subtract .ensures), rooms-2 (c .before .before .before .before .before .before .before .before .before .before .before .before .before .before .before .before), half-2 (c .before .before .before .before .before .before .before .before .before .before .before .before .before .before .before .before))
+
+sub-subtract-2 : tie.Need-sub-subtract-2
+sub-subtract-2 c =
+    omega (arith, dst-1 (c .before .before .before .before .before .before .before .before .before .before .before .before .before .before .before))
+
+part-subtract-start-2 : tie.Need-part-subtract-start-2
+part-subtract-start-2 c =
+    omega (arith, dst-1 (c .before .before .before .before .before .before .before .before .before .before .before .before .before .before .before))
+
+part-subtract-end-2 : tie.Need-part-subtract-end-2
+part-subtract-end-2 c = search needs
+
+subtract-requires-2 : tie.Need-subtract-requires-2
+subtract-requires-2 c κs =
+    let a = c .before .before .before .before .before .before .before .before .before .before .before .before .before .before .before .before .before .before .before .before .before .before .before .before .before .before .before .before .before .before .before .before .before .before .before .before .before .before .before .before .before .before .before .before .before .before .before .before .before .before .before .before .before .before .before .args in
+    let pre = c .before .before .before .before .before .before .before .before .before .before .before .before .before .before .before .before .before .before .before .before .before .before .before .before .before .before .before .before .before .before .before .before .before .before .before .before .before .before .before .before .before .before .before .before .before .before .before .before .before .before .before .before .before .before .before .pre in
+    let middle = middle-1 (c .before .before .before .before .before .before .before .before .before .before .before .before .before .before .before .before .before .before .before .before .before .before .before .before .before .before .before .before .before .before .before .before .before .before .before .before .before .before .before .before) in
+    let low = half-3 (c .before .before .before .before .before .before .before) in (
+      rest-long 128 (c .before .before .before .before .before .before .before .before .before .before .before .before .before .before .before .before .add2 .last .1 .1 .1 .0 ++ drop 128 (now (a .dst))) (dst-1 (c .before .before .before .before .before .before .before .before .before .before .before .before .before .before .before .before)),
+      omega arith,
+      omega arith,
+      lower-small 128 (now (a .row)) (now (a .v)) some (pre .0) (c .before .before .before .before .before .before .before .before .before .before .before .before .before .before .before .before .before .before .before .before .before .before .before .before .before .before .before .before .before .before .before .before .subtract .ensures) (c .before .before .before .before .before .before .before .before .before .before .before .before .before .before .before .before .before .before .before .before .before .before .before .before .before .before .before .before .before .before .before .before .before .before .before .before .before .before .before .before .before .before .before .before .before .before .before .before .add .ensures) (c .before .before .before .before .before .before .before .before .before .before .before .before .before .before .before .before .before .before .before .before .before .before .before .before .before .before .before .before .before .before .before .before .before .before .before .before .before .before .before .before .toeplitz-128 .ensures) (c .before .before .before .before .before .before .before .toeplitz-1283 .ensures),
     )
 
 same-length : tie.Need-same-length
-same-length c = search needs
+same-length c =
+    let pre = c .before .before .before .before .before .before .before .before .before .before .before .before .before .before .before .before .before .before .before .before .before .before .before .before .before .before .before .before .before .before .before .before .before .before .before .before .before .before .before .before .before .before .before .before .before .before .before .before .before .before .before .before .before .before .before .before .before .pre in
+    half-3 (c .before .before .before .before .before .before .before .before .before) ∙ sym (pre .1 .half-long)
+
+same-length-2 : tie.Need-same-length-2
+same-length-2 c =
+    c .before .before .before .before .before .before .before .before .before .before .before .before .before .before .before .before .before .before .before .before .before .before .before .before .before .before .before .before .before .before .before .before .before .before .before .before .before .before .before .before .before .before .toeplitz-128 .kept .1 .1 .1 .1 .1 .0
+
+same-length-3 : tie.Need-same-length-3
+same-length-3 c =
+    c .before .before .before .before .before .before .before .before .before .before .before .before .before .before .before .before .before .before .before .before .before .before .before .before .before .before .before .before .before .before .before .before .before .before .subtract .kept .1 .1 .1 .0
+
+same-length-4 : tie.Need-same-length-4
+same-length-4 c =
+    let a = c .before .before .before .before .before .before .before .before .before .before .before .before .before .before .before .before .before .before .before .before .before .before .before .before .before .before .before .before .before .before .before .before .before .before .before .before .before .before .before .before .before .before .before .before .before .before .before .before .before .before .before .before .before .before .before .before .before .args in
+    let pre = c .before .before .before .before .before .before .before .before .before .before .before .before .before .before .before .before .before .before .before .before .before .before .before .before .before .before .before .before .before .before .before .before .before .before .before .before .before .before .before .before .before .before .before .before .before .before .before .before .before .before .before .before .before .before .before .before .before .pre in
+    replaced-long 128 (now (a .dst)) (c .before .before .before .before .before .before .before .before .before .before .before .before .before .before .before .before .before .before .add2 .last .1 .1 .1 .0) (c .before .subtract2 .last .1 .1 .1 .0) (pre .2) (c .before .before .before .before .before .before .before .before .before .before .before .before .before .before .before .before .before .before .add2 .kept .1 .1 .1 .0) (c .before .subtract2 .kept .1 .1 .1 .0) ∙ sym (pre .2)
 
 returns : tie.Need-returns
 returns c =
-    let a = c .before .before .before .before .before .before .before .before .before .before .before .before .before .before .before .before .before .before .before .before .before .before .before .before .before .before .before .before .before .before .before .before .before .before .before .args in
-    halves-joined 128 (now (a .acc)) (now (a .row)) (now (a .v)) (c .before .before .before .before .before .before .before .before .before .before .before .before .before .before .before .before .before .before .before .before .before .before .before .before .before .before .before .before .before .before .before .before .before .before .before .pre) (above-is (c .before .before .before .before .before .before .before .before .before .before .before .before .before .before .before .before .before .before .before .before .before .before)) (c .before .before .before .before .before .before .before .before .before .before .before .before .before .before .before .before .before .toeplitz-1282 .ensures) (below-is (c .before .before .before .before .before .before .before .before .before .before .before .before .before .before)) (c .before .before .before .before .before .before .before .before .before .toeplitz-1283 .ensures) (c .before .before .before .before .before .before .before .before .before .before .before .before .before .before .before .before .before .before .before .before .before .before .before .before .before .before .before .before .before .before .before .before .before .zeros-128 .ensures) (both-is (c .before .before .before .before .before .before .before .before .before .before .before .before .before .before .before .before .before .before .before .before .before .before .before .before .before .before .before .before .before .before)) (c .before .before .before .before .before .before .before .before .before .before .before .before .before .before .before .before .before .before .before .before .before .before .before .before .before .toeplitz-128 .ensures)
-    (c .before .before .before .before .before .add .ensures) (c .before .add2 .ensures)
+    let a = c .before .before .before .before .before .before .before .before .before .before .before .before .before .before .before .before .before .before .before .before .before .before .before .before .before .before .before .before .before .before .before .before .before .before .before .before .before .before .before .before .before .before .before .before .before .before .before .before .before .before .before .before .before .before .before .before .before .args in
+    let pre = c .before .before .before .before .before .before .before .before .before .before .before .before .before .before .before .before .before .before .before .before .before .before .before .before .before .before .before .before .before .before .before .before .before .before .before .before .before .before .before .before .before .before .before .before .before .before .before .before .before .before .before .before .before .before .before .before .before .pre in
+    halves-joined 128 (now (a .row)) (now (a .v)) some (pre .0) (c .before .before .before .before .before .before .before .before .before .before .before .before .before .before .before .before .before .before .before .before .before .before .before .before .before .before .before .before .before .before .before .before .before .before .subtract .ensures) (c .before .before .before .before .before .before .before .before .before .before .before .before .before .before .before .before .before .before .before .before .before .before .before .before .before .before .before .before .before .before .before .before .before .before .before .before .before .before .before .before .before .before .before .before .before .before .before .before .before .before .add .ensures) (c .before .before .before .before .before .before .before .before .before .before .before .before .before .before .before .before .before .before .before .before .before .before .before .before .before .before .before .before .before .before .before .before .before .before .before .before .before .before .before .before .before .before .toeplitz-128 .ensures) (now (a .dst)) (c .before .before .before .before .before .before .before .before .before .before .before .before .before .before .before .before .before .before .before .before .before .before .before .before .before .before .toeplitz-1282 .ensures) (c .before .before .before .before .before .before .before .before .before .toeplitz-1283 .ensures) (c .before .before .before .before .before .before .before .before .before .before .before .before .before .before .before .before .before .before .add2 .ensures) (c .before .subtract2 .ensures)
 
 pub toeplitz-256-spec : {M : Type 1} → statement M
 toeplitz-256-spec =
     tie.close
     (tie.spec
-    words-128-requires
-    zeros-128-requires
-    words-256-requires
-    slice-aggregate-fold
-    fold-requires
-    slice-aggregate-toeplitz-128
+    words-64-requires
+    words-64-requires-2
+    words-192-requires
+    slice-aggregate-add
+    sub-add
+    part-add-start
+    part-add-end
+    add-requires
     sub-toeplitz-128
     part-toeplitz-128-start
     part-toeplitz-128-end
+    slice-aggregate-toeplitz-128
     slice-aggregate-toeplitz-128-2
-    toeplitz-128-requires
-    slice-aggregate-row-difference
-    row-difference-requires
-    slice-relend-prefix-toeplitz-128
     slice-aggregate-toeplitz-128-3
+    toeplitz-128-requires
+    slice-aggregate-subtract
+    sub-subtract
+    part-subtract-start
+    part-subtract-end
+    subtract-requires
+    slice-reshare-prefix-toeplitz-128
     slice-aggregate-toeplitz-128-4
     sub-toeplitz-128-2
     part-toeplitz-128-start-2
     part-toeplitz-128-end-2
+    slice-aggregate-toeplitz-128-5
+    slice-aggregate-toeplitz-128-6
+    slice-aggregate-toeplitz-128-7
     toeplitz-128-requires-2
-    slice-aggregate-row-difference-2
-    row-difference-requires-2
+    slice-relend-prefix-add
+    slice-aggregate-add-2
+    add-requires-2
     sub-toeplitz-128-3
     part-toeplitz-128-start-3
     part-toeplitz-128-end-3
-    slice-aggregate-toeplitz-128-5
-    slice-aggregate-toeplitz-128-6
+    slice-aggregate-toeplitz-128-8
+    slice-aggregate-toeplitz-128-9
+    slice-aggregate-toeplitz-128-10
+    slice-aggregate-toeplitz-128-11
     toeplitz-128-requires-3
-    slice-relend-prefix-add
-    slice-aggregate-add
-    slice-aggregate-add-2
-    add-requires
-    sub-add
-    part-add-start
-    part-add-end
-    slice-aggregate-add-3
-    add-requires-2
+    sub-subtract-2
+    part-subtract-start-2
+    part-subtract-end-2
+    subtract-requires-2
     same-length
+    same-length-2
+    same-length-3
+    same-length-4
     returns)

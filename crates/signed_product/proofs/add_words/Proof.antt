@@ -1,4 +1,4 @@
--- `signed_product::rows::add_words` meets its contract: after k turns the first k words are added.
+-- `signed_product::add_words` meets its contract: after k turns the first k words are added.
 -- Assumes nothing.
 use mathlib.Core.Path.{_≡_, refl, ap₂, _∙_}
 use Prim.Native.Nat.{_-_, _≤_}
@@ -12,8 +12,8 @@ use mir.ValLaws.{toZ-ofZ}
 use Rattle.bits.proofs.Filling.{filled, filled-none, filled-more, filled-at, filled-all}
 use Rattle.ring.specs.Poly.{plus, ofInts}
 use Rattle.ring.proofs.Sizes.{le-largest}
-use Rattle.signed_product.proofs.rows.add_words.Statement.{statement}
-use Rattle.signed_product.proofs.rows.add_words.Tie as tie
+use Rattle.signed_product.proofs.add_words.Statement.{statement}
+use Rattle.signed_product.proofs.add_words.Tie as tie
 
 abbrev Inv-loop : tie.InvT-loop
 Inv-loop acc₀ xs k₀ acc k = (k ≤ length acc₀) × (length acc ≡ length acc₀) × (acc ≡ filled k (plus (ofInts acc₀) (ofInts xs)) acc₀)

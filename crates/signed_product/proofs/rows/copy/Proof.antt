@@ -1,4 +1,4 @@
--- `signed_product::copy` meets its contract: after k turns the first k coefficients are copied.
+-- `signed_product::rows::copy` meets its contract: after k turns the first k coefficients are copied.
 -- Assumes nothing.
 use mathlib.Core.Path.{_≡_, refl, _∙_}
 use Prim.Native.Nat.{_-_, _≤_}
@@ -10,14 +10,14 @@ use mir.Syntax.{w16}
 use mir.ValLaws.{toZ-ofZ}
 use Rattle.bits.proofs.Filling.{filled, filled-none, filled-more, filled-all, tabulate-entries}
 use Rattle.ring.specs.Poly.{ofInts}
-use Rattle.signed_product.proofs.copy.Statement.{statement}
-use Rattle.signed_product.proofs.copy.Tie as tie
+use Rattle.signed_product.proofs.rows.copy.Statement.{statement}
+use Rattle.signed_product.proofs.rows.copy.Tie as tie
 
 abbrev Inv-loop : tie.InvT-loop
-Inv-loop src dst₀ k₀ dst k = (k ≤ length dst₀) × (length dst ≡ length dst₀) × (dst ≡ filled k (ofInts src) dst₀)
+Inv-loop n src dst₀ k₀ dst k = (k ≤ length dst₀) × (length dst ≡ length dst₀) × (dst ≡ filled k (ofInts src) dst₀)
 
 abbrev μ-loop : tie.MeasureT-loop
-μ-loop src dst₀ k₀ dst k = length dst₀ - k
+μ-loop n src dst₀ k₀ dst k = length dst₀ - k
 
 loop-holds : tie.Need-loop-holds Inv-loop μ-loop
 loop-holds c = (omega arith, refl, filled-none _ _)
@@ -28,8 +28,8 @@ mul-dst c = omega arith
 shared-slice-copy-out-dst : tie.Need-shared-slice-copy-out-dst Inv-loop μ-loop
 shared-slice-copy-out-dst c = omega arith
 
-mul-t8 : tie.Need-mul-t8 Inv-loop μ-loop
-mul-t8 c = omega arith
+mul-t9 : tie.Need-mul-t9 Inv-loop μ-loop
+mul-t9 c = omega arith
 
 slice-set-from-dst : tie.Need-slice-set-from-dst Inv-loop μ-loop
 slice-set-from-dst c = omega arith
@@ -69,7 +69,7 @@ copy-spec =
     loop-holds
     mul-dst
     shared-slice-copy-out-dst
-    mul-t8
+    mul-t9
     slice-set-from-dst
     add-k
     loop-less

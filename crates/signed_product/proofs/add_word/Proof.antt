@@ -1,4 +1,4 @@
--- `signed_product::rows::add_word` meets its contract: the sum fits.
+-- `signed_product::add_word` meets its contract: the sum fits.
 -- Assumes nothing.
 use mathlib.Core.Path.{_≡_}
 use mir.Syntax.{w16, w32}
@@ -6,8 +6,8 @@ use mir.Val.{toZ, ofZ}
 use mir.ValLaws.{toZ-ofZ}
 use Rattle.ring.proofs.Sizes.{wider}
 use Rattle.signed_product.proofs.Columns.{wide-fits}
-use Rattle.signed_product.proofs.rows.add_word.Statement.{statement}
-use Rattle.signed_product.proofs.rows.add_word.Tie as tie
+use Rattle.signed_product.proofs.add_word.Statement.{statement}
+use Rattle.signed_product.proofs.add_word.Tie as tie
 
 same : (c : tie.Start) → toZ w16 (ofZ w16 (c .args .y)) ≡ c .args .y
 same c = toZ-ofZ w16 (c .args .y) (c .fits .y)

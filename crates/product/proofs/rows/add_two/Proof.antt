@@ -1,0 +1,110 @@
+-- `product::rows::add_two` meets its contract: after k turns the first k coefficients have their terms.
+-- Assumes nothing.
+use mathlib.Core.Path.{_≡_, refl, ap, _∙_}
+use mathlib.Core.List.{List}
+use Prim.Native.Nat.{ℕ, _+_, _-_, _≤_}
+use native.Mathlib.Omega.{arith}
+use borrow.Author.Needs.{needs}
+use denote.Ref.{now}
+use lib.ListN.{length, getD, length-set}
+use Rattle.bits.proofs.Filling.{filled, filled-none, filled-more, filled-at, filled-all}
+use Rattle.ring.specs.Terms.{addTerm}
+use Rattle.product.proofs.rows.add_two.Statement.{statement}
+use Rattle.product.proofs.rows.add_two.Tie as tie
+
+-- Entry k with its terms.
+abbrev columns : List ℕ → List ℕ → ℕ → ℕ → ℕ → ℕ
+columns acc row a b k = addTerm (addTerm (getD acc k 0) a (getD row (k + 1) 0)) b (getD row k 0)
+
+abbrev Inv-loop : tie.InvT-loop
+Inv-loop acc₀ row a b k₀ acc k = (k ≤ length acc₀) × (length acc ≡ length acc₀) × (acc ≡ filled k (columns acc₀ row a b) acc₀)
+
+abbrev μ-loop : tie.MeasureT-loop
+μ-loop acc₀ row a b k₀ acc k = length acc₀ - k
+
+loop-holds : tie.Need-loop-holds Inv-loop μ-loop
+loop-holds c = (omega arith, refl, filled-none _ _)
+
+mul-add-term : tie.Need-mul-add-term Inv-loop μ-loop
+mul-add-term c = omega arith
+
+slice-read-add-term : tie.Need-slice-read-add-term Inv-loop μ-loop
+slice-read-add-term c = omega arith
+
+add-add-term : tie.Need-add-add-term Inv-loop μ-loop
+add-add-term c = omega arith
+
+mul-add-term-2 : tie.Need-mul-add-term-2 Inv-loop μ-loop
+mul-add-term-2 c = omega arith
+
+shared-slice-read-add-term : tie.Need-shared-slice-read-add-term Inv-loop μ-loop
+shared-slice-read-add-term c = omega arith
+
+add-term-requires : tie.Need-add-term-requires Inv-loop μ-loop
+add-term-requires c κs = search needs
+
+mul-add-term-3 : tie.Need-mul-add-term-3 Inv-loop μ-loop
+mul-add-term-3 c = omega arith
+
+shared-slice-read-add-term-2 : tie.Need-shared-slice-read-add-term-2 Inv-loop μ-loop
+shared-slice-read-add-term-2 c = omega arith
+
+add-term-requires-2 : tie.Need-add-term-requires-2 Inv-loop μ-loop
+add-term-requires-2 c κs = search needs
+
+mul-acc : tie.Need-mul-acc Inv-loop μ-loop
+mul-acc c = omega arith
+
+slice-write-acc : tie.Need-slice-write-acc Inv-loop μ-loop
+slice-write-acc c = omega arith
+
+add-k : tie.Need-add-k Inv-loop μ-loop
+add-k c = omega arith
+
+loop-less : tie.Need-loop-less Inv-loop μ-loop
+loop-less c = omega arith
+
+loop-again : tie.Need-loop-again Inv-loop μ-loop
+loop-again c =
+    let h = c .before .before .before .before .before .before .loop in
+    let a = c .before .before .before .before .before .before .before .before .before .args in
+    let there = filled-at (h .k) (h .k) _ (now (a .acc)) 0 (omega arith) (h .inv .2) in (
+      omega arith,
+      simp length-set (h .inv .1),
+      filled-more (h .k) (columns (now (a .acc)) (now (a .row)) (a .a) (a .b)) (now (a .acc)) 0 (omega arith) (h .inv .2)
+          (c .add-term2 .ensures
+          ∙ ap (λ (m : ℕ). addTerm m (a .b) (getD (now (a .row)) (h .k) 0)) (c .before .before .add-term .ensures ∙ ap (λ (m : ℕ). addTerm m (a .a) (getD (now (a .row)) (h .k + 1) 0)) there)),
+    )
+
+same-length : tie.Need-same-length Inv-loop μ-loop
+same-length c = c .before .loop .inv .1
+
+returns : tie.Need-returns Inv-loop μ-loop
+returns c =
+    let h = c .before .loop in
+    let a = c .before .before .before .before .args in
+    filled-all (h .k) (length (now (a .acc))) (columns (now (a .acc)) (now (a .row)) (a .a) (a .b)) (now (a .acc)) refl (omega arith) (omega arith) (h .inv .2)
+
+pub add-two-spec : {M : Type 1} → statement M
+add-two-spec =
+    tie.close
+    (tie.spec
+    Inv-loop
+    μ-loop
+    loop-holds
+    mul-add-term
+    slice-read-add-term
+    add-add-term
+    mul-add-term-2
+    shared-slice-read-add-term
+    add-term-requires
+    mul-add-term-3
+    shared-slice-read-add-term-2
+    add-term-requires-2
+    mul-acc
+    slice-write-acc
+    add-k
+    loop-less
+    loop-again
+    same-length
+    returns)
