@@ -1,4 +1,4 @@
--- Laws of the product that `rows::toeplitz_rows` adds up column by column, modulo 2^16. Assumes nothing.
+-- Laws of the product that `rows::toeplitz_rows` adds up two columns a turn, modulo 2^16. Assumes nothing.
 use mathlib.Core.Path.{_≡_, refl, sym, ap, _∙_}
 use mathlib.Core.List.{List}
 use Prim.Native.Nat.{ℕ, _+_, _-_, _*_, _≤_, _<_}

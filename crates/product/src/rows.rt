@@ -1,4 +1,4 @@
-// Products of Toeplitz matrices with vectors, column by column, modulo 2^16.
+// Products of Toeplitz matrices with vectors, two columns a turn, modulo 2^16.
 ghost use mathlib.Core.Path.{_≡_};
 ghost use Prim.Native.Nat.{_+_};
 ghost use lib.ListN.{length, getD, replicate};

@@ -1,4 +1,4 @@
--- Laws of the product that `rows::toeplitz_64` adds up column by column, and of the sizes of its sums. Assumes nothing.
+-- Laws of the product that `rows::toeplitz_64` adds up two columns a turn, and of the sizes of its sums. Assumes nothing.
 use mathlib.Core.Path.{_≡_, refl, sym, ap, ap₂, _∙_}
 use mathlib.Core.List.{List}
 use Prim.Native.Nat.{ℕ, suc, _+_, _-_, _*_, _^_, _≤_, _<_}

@@ -1,4 +1,4 @@
-// Products of Toeplitz matrices of 64 rows with vectors, column by column, in words of 16 bits.
+// Products of Toeplitz matrices of 64 rows with vectors, two columns a turn, in words of 16 bits.
 ghost use mathlib.Core.Path.{_≡_};
 ghost use Prim.Native.Nat.{_+_, _*_, _^_, _<_};
 ghost use lib.IntN.{pos, natAbs, _+ℤ_, _*ℤ_};
