@@ -33,39 +33,21 @@ pub columns-all : (acc row v : List ℕ)
 unfolding columns toeplitz withToeplitz
 columns-all acc row v = refl
 
--- The part of a row that column i reaches.
+-- n entries of a list from place a on: how many they are, and entry k of them.
+pub window-long : {A : Type 0} (a n : ℕ) (xs : List A) → a + n ≤ length xs → length (take n (drop a xs)) ≡ n
+window-long a n xs h =
+    let there : n ≤ length xs - a = omega arith in
+    simp (length-take, length-drop) (min-eq-left there)
+
+pub window-at : {A : Type 0} (a n : ℕ) (xs : List A) (none : A) {k : ℕ} → k < n → getD (take n (drop a xs)) k none ≡ getD xs (a + k) none
+window-at a n xs none {k} hk = getD-take n (drop a xs) k none hk ∙ getD-drop a xs k none
+
+-- The part of a row that column i reaches, and that columns i and i + 1 reach.
 abbrev pub reached : {A : Type 0} → ℕ → ℕ → List A → List A
 reached n i row = take (2 * n - i - (n - i)) (drop (n - i) row)
 
-pub column-long : {A : Type 0} (n i : ℕ) (row : List A) → i < n → length row ≡ 2 * n → length (reached n i row) ≡ n
-column-long n i row h s =
-    let whole : 2 * n - i - (n - i) ≡ n = omega arith in
-    let rest : n ≤ length row - (n - i) = omega arith in
-    rw whole (simp (length-take, length-drop) (min-eq-left rest))
-
--- Its entry k.
-pub reached-at : {A : Type 0} (n i : ℕ) (row : List A) (k : ℕ) (none : A) → i < n → k < n → getD (reached n i row) k none ≡ getD row (n - i + k) none
-reached-at n i row k none h hk =
-    let m = 2 * n - i - (n - i) in
-    let inside : k < m = omega arith in
-    getD-take m (drop (n - i) row) k none inside ∙ getD-drop (n - i) row k none
-
--- The part of a row that columns i and i + 1 reach, and its entry k.
 abbrev pub reachedTwo : {A : Type 0} → ℕ → ℕ → List A → List A
 reachedTwo n i row = take (2 * n - i - (n - 1 - i)) (drop (n - 1 - i) row)
-
-pub two-long : {A : Type 0} (n i : ℕ) (row : List A) → i < n → length row ≡ 2 * n → length (reachedTwo n i row) ≡ n + 1
-two-long n i row h s =
-    let whole : 2 * n - i - (n - 1 - i) ≡ n + 1 = omega arith in
-    let rest : n + 1 ≤ length row - (n - 1 - i) = omega arith in
-    rw whole (simp (length-take, length-drop) (min-eq-left rest))
-
-pub two-at : {A : Type 0} (n i : ℕ) (row : List A) (k : ℕ) (none : A) → i < n → k < n + 1
-    → getD (reachedTwo n i row) k none ≡ getD row (n - 1 - i + k) none
-two-at n i row k none h hk =
-    let m = 2 * n - i - (n - 1 - i) in
-    let inside : k < m = omega arith in
-    getD-take m (drop (n - 1 - i) row) k none inside ∙ getD-drop (n - 1 - i) row k none
 
 -- A column more.
 column-next : (n : ℕ) (f r v : Poly) (i k : ℕ) → columns n f r v (i + 1) k ≡ columns n f r v i k +ℤ v i *ℤ r (n - i + k)
@@ -84,7 +66,7 @@ column-more n f row xs acc i h e =
     (λ k hk.
     term-more (getD xs i 0) (columns n f (ofNats row) (ofNats xs) i k)
     (ap (λ (l : List ℕ). getD l k 0) e ∙ residues-at 65536 n (columns n f (ofNats row) (ofNats xs) i) hk)
-    (cong-of-eq (ap pos (reached-at n i row k 0 h hk)))
+    (cong-of-eq (ap pos (window-at (n - i) (2 * n - i - (n - i)) row 0 (omega arith))))
     ∙ ap (residue 65536) (sym (column-next n f (ofNats row) (ofNats xs) i k)))
 
 -- What the code adds to acc is two columns.
@@ -104,8 +86,8 @@ columns-more n f row xs acc i h e =
     term-more (getD xs (i + 1) 0) (columns n f (ofNats row) (ofNats xs) (i + 1) k)
     (term-more (getD xs i 0) (columns n f (ofNats row) (ofNats xs) i k)
     (ap (λ (l : List ℕ). getD l k 0) e ∙ residues-at 65536 n (columns n f (ofNats row) (ofNats xs) i) hk)
-    (cong-of-eq (ap pos (two-at n i row (k + 1) 0 (omega arith) (omega arith) ∙ ap (λ (j : ℕ). getD row j 0) first)))
+    (cong-of-eq (ap pos (window-at (n - 1 - i) (2 * n - i - (n - 1 - i)) row 0 {k = k + 1} (omega arith) ∙ ap (λ (j : ℕ). getD row j 0) first)))
     ∙ ap (residue 65536) (sym (column-next n f (ofNats row) (ofNats xs) i k)))
-    (cong-of-eq (ap pos (two-at n i row k 0 (omega arith) (omega arith) ∙ ap (λ (j : ℕ). getD row j 0) second)))
+    (cong-of-eq (ap pos (window-at (n - 1 - i) (2 * n - i - (n - 1 - i)) row 0 (omega arith) ∙ ap (λ (j : ℕ). getD row j 0) second)))
     ∙ ap (residue 65536) (sym (column-next n f (ofNats row) (ofNats xs) (i + 1) k))
     ∙ ap (λ (j : ℕ). residue 65536 (columns n f (ofNats row) (ofNats xs) j k)) next)

@@ -16,6 +16,7 @@ use Rattle.ring.proofs.Modular.{cong-of-eq, cong-refl, cong-trans, cong-add}
 use Rattle.ring.proofs.Residues.{length-residues, ofNats-residues, residues-cong}
 use Rattle.product.specs.Toeplitz.{toeplitz, withToeplitz, Matrix}
 use Rattle.product.specs.Halves.{folded, rowDifference}
+use Rattle.product.proofs.Columns.{window-at}
 use Rattle.product.proofs.Halving.{from, toeplitz-cong, upper, lower}
 
 some : 0 < 65536
@@ -47,9 +48,6 @@ rest-at h xs k = ap (λ (l : List ℕ). ofNats l k) (take-rest h xs) ∙ ap pos 
 
 take-at : (h : ℕ) (xs : List ℕ) {k : ℕ} → k < h → ofNats (take h xs) k ≡ ofNats xs k
 take-at h xs {k} hk = ap pos (getD-take h xs k 0 hk)
-
-window-at : (h n : ℕ) (xs : List ℕ) {k : ℕ} → k < n → ofNats (take n (drop h xs)) k ≡ from h (ofNats xs) k
-window-at h n xs {k} hk = ap pos (getD-take n (drop h xs) k 0 hk ∙ getD-drop h xs k 0)
 
 -- The first half, and the second, of a list of two.
 pub first-of : {A : Type 0} (h : ℕ) (ys zs : List A) → length ys ≡ h → take h (ys ++ zs) ≡ ys
@@ -188,7 +186,7 @@ halves-joined h acc row v {both} {none} {mid} {above} {t} {below} {b} {t'} {b'} 
     let mid-at : (k : ℕ) → k < h → Cong 65536 (ofNats mid k) (toeplitz h (from h r) (ofNats both) k) =
     λ k hk. cong-trans (from-nothing h none (take (h + h) (drop h row)) both en (em ∙ ap (λ (n : ℕ). withToeplitz none (take n (drop h row)) both) same) hk)
     (toeplitz-cong h (ofNats (take (h + h) (drop h row))) (from h r) (ofNats both) (ofNats both)
-    (λ i hi. cong-of-eq (window-at h (h + h) row hi)) (λ i _. cong-refl (ofNats both i)) hk)
+    (λ i hi. cong-of-eq (ap pos (window-at h (h + h) row 0 hi))) (λ i _. cong-refl (ofNats both i)) hk)
     in
     let sums : Poly = plus (ofNats acc) (toeplitz (h + h) r f) in
     let top : added t mid ≡ residues 65536 h sums =

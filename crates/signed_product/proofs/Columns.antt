@@ -20,7 +20,7 @@ use Rattle.ring.proofs.Integers.{natAbs-add, natAbs-mul}
 use Rattle.ring.proofs.Sums.{natAbs-sum}
 use Rattle.ring.proofs.Sizes.{fits-abs, abs-fits, le-largest, largest-le}
 use Rattle.product.specs.Toeplitz.{toeplitz}
-use Rattle.product.proofs.Columns.{reachedTwo, two-at}
+use Rattle.product.proofs.Columns.{reachedTwo, window-at}
 use Rattle.signed_product.specs.Toeplitz.{productOf, Bounded}
 use Rattle.signed_product.proofs.Small.{terms-small, part-size}
 
@@ -88,8 +88,8 @@ columns-more n i row v acc {l} {a} {b} same long turn is ea eb =
     ap₂ _+ℤ_
     (ap₂ _+ℤ_
     (ap (λ (l : List ℤ). ofInts l k) is ∙ tabulate-at 64 (columns (ofInts row) (ofInts v) i) k (pos 0) hk)
-    (ap₂ _*ℤ_ ea (two-at n i row (k + 1) (pos 0) (omega arith) (omega arith) ∙ ap (ofInts row) first)))
-    (ap₂ _*ℤ_ (eb ∙ ap (ofInts v) (add-one i)) (two-at n i row k (pos 0) (omega arith) (omega arith) ∙ ap (ofInts row) second))
+    (ap₂ _*ℤ_ ea (window-at (n - 1 - i) (2 * n - i - (n - 1 - i)) row (pos 0) {k = k + 1} (omega arith) ∙ ap (ofInts row) first)))
+    (ap₂ _*ℤ_ (eb ∙ ap (ofInts v) (add-one i)) (window-at (n - 1 - i) (2 * n - i - (n - 1 - i)) row (pos 0) (omega arith) ∙ ap (ofInts row) second))
     ∙ ap (λ (j : ℕ). columns (ofInts row) (ofInts v) j k) (sym two))
 
 -- ---- sizes of columns

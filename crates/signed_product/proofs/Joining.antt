@@ -18,6 +18,7 @@ use Rattle.ring.proofs.Sums.{natAbs-sum, sum-ext, sum-neg}
 use Rattle.ring.proofs.Sizes.{le-largest, largest-le}
 use Rattle.ring.proofs.Modular.{cong-of-eq, cong-refl}
 use Rattle.product.specs.Toeplitz.{toeplitz}
+use Rattle.product.proofs.Columns.{window-at}
 use Rattle.product.proofs.Halving.{from, toeplitz-cong, upper, lower}
 use Rattle.product.proofs.Joining.{rest, putRest, rest-long, first-long, replaced}
 use Rattle.signed_product.specs.Toeplitz.{productOf, Bounded, Matrix}
@@ -92,9 +93,6 @@ rest-at h xs k = ap (λ (l : List ℤ). ofInts l k) (take-rest h xs) ∙ getD-dr
 
 take-at : (h : ℕ) (xs : List ℤ) {k : ℕ} → k < h → ofInts (take h xs) k ≡ ofInts xs k
 take-at h xs {k} hk = getD-take h xs k (pos 0) hk
-
-window-at : (h n : ℕ) (xs : List ℤ) {k : ℕ} → k < n → ofInts (take n (drop h xs)) k ≡ from h (ofInts xs) k
-window-at h n xs {k} hk = getD-take n (drop h xs) k (pos 0) hk ∙ getD-drop h xs k (pos 0)
 
 -- A matrix of negated entries has the negated product.
 toeplitz-neg : (n : ℕ) (r v : Poly) (k : ℕ) → toeplitz n (λ i. negℤ (r i)) v k ≡ negℤ (toeplitz n r v k)
@@ -202,7 +200,7 @@ module _ (h : ℕ) (row v : List ℤ) (some : 0 < h) (m : Matrix (h + h) row v) 
           ap (λ (l : List ℤ). ofInts l k) em ∙ tabulate-at h (toeplitz h (ofInts window) (ofInts both)) k (pos 0) hk
           ∙ same-of
           (toeplitz-cong h (ofInts window) (from h (ofInts row)) (ofInts both) (ofInts both)
-          (λ i hi. cong-of-eq (window-at h (h + h + h - h) row (omega arith))) (λ i _. cong-refl (ofInts both i)) hk)
+          (λ i hi. cong-of-eq (window-at h (h + h + h - h) row (pos 0) (omega arith))) (λ i _. cong-refl (ofInts both i)) hk)
 
       -- The upper half of the whole.
       upper-is : {up : List ℤ} → up ≡ productOf h (take (h + h) part) (rest h v) → added mid up ≡ tabulate h (toeplitz (h + h) (ofInts row) (ofInts v))

@@ -1,8 +1,8 @@
 // Products of Toeplitz matrices with vectors, from three of half the length: of the middle matrix with the sum of the
 // vector's halves, of what the upper one has more than it with the second half, and of what it has more than the lower one,
-// in the same row, with the first. The caller lends the rooms, so that they are not cleared for each product: half, for the
-// sum of the vector's halves and then for the upper and the lower product, middle, for the middle product, and part, for the
-// row of differences; inner, centre and excess are the same of the level below.
+// in the same row, with the first. The caller lends the rooms, so that its three products share them: half, for the sum of
+// the vector's halves and then for the upper and the lower product, middle, for the middle product, and part, for the row of
+// differences; inner, centre and excess are the same of the level below.
 ghost use mathlib.Core.Path.{_≡_};
 ghost use Prim.Native.Nat.{_^_, _<_};
 ghost use lib.IntN.{natAbs, _+ℤ_, _-ℤ_};

@@ -1,13 +1,13 @@
 -- `product::rows::toeplitz_rows` meets its contract: after i entries of v the first i columns are added.
 -- Assumes nothing.
 use mathlib.Core.Path.{_≡_, refl, ap, _∙_}
-use Prim.Native.Nat.{ℕ, _+_, _-_, _≤_}
+use Prim.Native.Nat.{ℕ, _+_, _*_, _-_, _≤_}
 use native.Mathlib.Omega.{arith}
 use denote.Ref.{now}
 use lib.ListN.{length}
 use Rattle.bits.specs.Bits.{Below}
 use Rattle.ring.specs.Poly.{ofNats, residues}
-use Rattle.product.proofs.Columns.{columns, columns-none, columns-all, column-long, column-more, two-long, columns-more}
+use Rattle.product.proofs.Columns.{columns, columns-none, columns-all, window-long, column-more, columns-more}
 use Rattle.product.proofs.rows.toeplitz_rows.Statement.{statement}
 use Rattle.product.proofs.rows.toeplitz_rows.Tie as tie
 
@@ -71,7 +71,8 @@ add-two-requires : tie.Need-add-two-requires Inv-loop μ-loop
 add-two-requires c κs =
     let h = c .before .before .before .before .before .loop in
     let a = c .before .before .before .before .before .before .before .before .before .args in
-    two-long (length (now (a .acc))) (h .i) (now (a .row)) (omega arith) (omega arith) ∙ omega arith
+    let n = length (now (a .acc)) in
+    window-long (n - 1 - h .i) (2 * n - h .i - (n - 1 - h .i)) (now (a .row)) (omega arith) ∙ omega arith
 
 add-i : tie.Need-add-i Inv-loop μ-loop
 add-i c = omega arith
@@ -120,7 +121,8 @@ add-column-requires : tie.Need-add-column-requires Inv-loop μ-loop
 add-column-requires c κs =
     let h = c .before .before .before .before .before .loop in
     let a = c .before .before .before .before .before .before .before .before .before .args in
-    column-long (length (now (a .acc))) (h .i) (now (a .row)) (omega arith) (omega arith) ∙ omega arith
+    let n = length (now (a .acc)) in
+    window-long (n - h .i) (2 * n - h .i - (n - h .i)) (now (a .row)) (omega arith) ∙ omega arith
 
 same-length : tie.Need-same-length Inv-loop μ-loop
 same-length c = c .before .before .add-column .kept .0 ∙ c .before .before .before .before .before .before .before .before .loop .inv .1

@@ -1,14 +1,14 @@
 -- `signed_product::rows::add_columns` meets its contract: after i entries of v the first i columns are added.
 -- Assumes nothing.
 use mathlib.Core.Path.{_≡_, ap, _∙_}
-use Prim.Native.Nat.{ℕ, _+_, _-_, _%_, _≤_, _<_}
+use Prim.Native.Nat.{ℕ, _+_, _*_, _-_, _%_, _≤_, _<_}
 use native.Mathlib.Omega.{arith}
 use denote.Ref.{now}
 use lib.IntN.{pos}
 use lib.ListN.{length, length-replicate}
 use Rattle.keccak.specs.Lists.{tabulate}
 use Rattle.ring.specs.Poly.{ofInts}
-use Rattle.product.proofs.Columns.{two-long}
+use Rattle.product.proofs.Columns.{window-long}
 use Rattle.signed_product.proofs.Columns.{word, columns, columns-none, columns-all, columns-more, columns-room}
 use Rattle.signed_product.proofs.rows.add_columns.Statement.{statement}
 use Rattle.signed_product.proofs.rows.add_columns.Tie as tie
@@ -72,7 +72,7 @@ add-two-requires c κs =
     let m = c .before .before .before .before .before .before .pre .1 in
     let n : ℕ = length (now (a .acc)) in
     let turn : h .i + 1 < 64 = omega arith in (
-      two-long n (h .i) (now (a .row)) (omega arith) (omega (arith, m .row-long)) ∙ omega arith,
+      window-long (n - 1 - h .i) (2 * n - h .i - (n - 1 - h .i)) (now (a .row)) (omega (arith, m .row-long)) ∙ omega arith,
       columns-room n (h .i) (now (a .row)) (now (a .v)) (h .acc) turn (h .inv .4) (m .bounded) (word (c .before .add-two-arg3 .given)) (word (c .add-two-arg4 .given)),
     )
 
