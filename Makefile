@@ -49,6 +49,7 @@ test:
 vectors:
 	tests/vectors/shake_cases.py
 	tests/vectors/ring_cases.py
+	tests/vectors/linkcheck_cases.py
 	tests/vectors/kindi_cases.py
 
 bench: $(BENCHES)
