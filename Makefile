@@ -35,9 +35,10 @@ target/staticlib/lib%.a: $(SOURCES)
 	$(RT) staticlib $*
 
 run: $(EXAMPLES)
-	$(RT) check shake_vectors ring_vectors
+	$(RT) check shake_vectors ring_vectors linkcheck
 	target/examples/shake $${TEXT:+"$$TEXT"}
 	target/examples/programme
+	examples/linkcheck.py
 
 target/examples/%: examples/%.c include/kindi.h $(LIB)
 	@mkdir -p $(@D)
