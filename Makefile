@@ -2,7 +2,8 @@
 # make run      prove and run the test vectors, then the examples (TEXT='...' for the one of SHAKE)
 # make test     the merge gate: every proof, every must-fail edit, every host test
 # make vectors  make the stored test vectors and known answers again
-# make bench    time the library beside portable C and, where it is installed, OpenSSL; measure its stack
+# make bench    time the library beside portable C and, where it is installed, OpenSSL; measure its stack;
+#               time linkcheck beside the library's bare calls
 # make clean    remove all that was built
 
 CC = gcc
@@ -53,8 +54,10 @@ vectors:
 	tests/vectors/linkcheck_cases.py
 	tests/vectors/kindi_cases.py
 
-bench: $(BENCHES)
+bench: $(BENCHES) target/bench/calls
+	$(RT) check linkcheck
 	for program in $(BENCHES); do $$program || exit 1; done
+	bench/linkcheck.py
 
 target/bench/%: bench/%.c $(BENCH_PARTS) include/kindi.h $(LIB) $(RING)
 	@mkdir -p $(@D)

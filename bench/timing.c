@@ -10,7 +10,7 @@
 #define LABEL_WIDTH 44
 #define FIGURE_WIDTH 10
 
-static double now_ns(void)
+double now_ns(void)
 {
     struct timespec t;
 

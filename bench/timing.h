@@ -14,6 +14,9 @@ struct candidate {
     void *arg;
 };
 
+/* The time in nanoseconds since some moment. */
+double now_ns(void);
+
 /*
  * Sets best[i] to the nanoseconds of one run of candidate i: the least of several repetitions. The
  * candidates take turns within each repetition, so that a slow spell of the machine meets them all.
