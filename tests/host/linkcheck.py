@@ -107,6 +107,14 @@ def at_once(data):
         return content_of(out)
 
 
+def left_open(data):
+    """The input does not end: the program has to stop by itself."""
+    with started() as (process, out):
+        write(process, data)
+        process.wait()
+        return content_of(out)
+
+
 def in_blocks(size):
     def give(data):
         with started() as (process, out):
@@ -381,9 +389,17 @@ def ways(stocks):
     yield Case("many outputs from a file", outputs, from_file)
 
 
+def reading_ends(stocks):
+    """Inputs that stay open: after 10 and 11, and after the last record, nothing more is awaited."""
+    for before in (b"", stocks[0].one_of_each()):
+        yield Case("a wrong mark, and the input stays open", before + b"\x4b\x45\x01\x01\x00\x00", left_open)
+        yield Case("a length over the limit, and the input stays open", before + header(1, 1, 8193), left_open)
+    yield Case("the last record, and the input stays open", SHORT * MOST_RECORDS, left_open)
+
+
 # The long ones come early, so that no processor waits for another at the end.
 PARTS = (paper, most_records, ways, damaged, length_limit, wrong_marks, lengths, cut_headers, cut_bodies, every_set,
-         every_kind, garbage)
+         every_kind, garbage, reading_ends)
 
 
 # Random mixtures
