@@ -40,7 +40,8 @@ take-rest a xs = take-all (length xs - a) (drop a xs) (simp length-drop (omega a
 
 -- ---- lists that are joined
 
-concatMap-append : {A : Type 0} (f : A → List ℕ) (xs ys : List A) → concatMap f (xs ++ ys) ≡ concatMap f xs ++ concatMap f ys
+-- Joined lists give the joined results.
+pub concatMap-append : {A : Type 0} (f : A → List ℕ) (xs ys : List A) → concatMap f (xs ++ ys) ≡ concatMap f xs ++ concatMap f ys
 unfolding concatMap
 concatMap-append f [] ys = refl
 concatMap-append f (x ∷ xs) ys =

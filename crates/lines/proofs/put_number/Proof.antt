@@ -1,0 +1,33 @@
+-- `lines::put_number` meets its contract.
+-- Assumes nothing.
+use native.Mathlib.Omega.{arith}
+use borrow.Author.Needs.{needs}
+use Rattle.lines.proofs.Texts.{written-then, decimal-fits}
+use Rattle.lines.proofs.put_number.Statement.{statement}
+use Rattle.lines.proofs.put_number.Tie as tie
+use Rattle.lines.proofs.put_number.Reads as reads
+use Rattle.lines.proofs.put_number.Lts as lts
+use Rattle.lines.proofs.put.Reads as put-reads
+use Rattle.lines.proofs.put_decimal.Reads as put-decimal-reads
+
+-- src/lib.rt:35:9
+put-decimal-requires : tie.Need-put-decimal-requires
+put-decimal-requires c κs =
+    omega (arith, decimal-fits (c .before .before .args .v) (omega arith))
+
+-- src/lib.rt:36:5
+put-requires : tie.Need-put-requires
+put-requires c κs =
+    omega (arith, decimal-fits (c .before .before .before .before .before .before .args .v) (omega arith), c .before .before .before .put-decimal .ensures .next-is)
+
+-- src/lib.rt:31:1
+same-length : tie.Need-same-length
+same-length c = search needs
+
+-- src/lib.rt:31:1
+returns : tie.Need-returns
+returns c =
+    written-then (c .before .before .before .before .before .before .put-decimal .ensures) (c .before .before .put .ensures)
+
+pub put-number-spec : {M : Type 1} → statement M
+put-number-spec = tie.close (tie.spec put-decimal-requires put-requires same-length returns)

@@ -1,0 +1,2 @@
+-- What the contracts of `lines` say: the lines of records.
+pub mod Line
