@@ -1,0 +1,8 @@
+-- The laws that the proofs of `records` share.
+pub mod Headers
+pub mod Sizes
+pub mod Outcomes
+pub mod ByKind
+pub mod Stepping
+pub mod Windows
+pub mod Transcripts

@@ -1,0 +1,159 @@
+-- Laws of windows: what is left is moved to the front byte by byte; a window that shows its record gives the step of the whole
+-- rest. Assumes nothing.
+use mathlib.Core.Path.{_≡_, refl, sym, ap, ap₂, _∙_}
+use mathlib.Core.Bool.{Bool, true, false, cond, not, _||_}
+use mathlib.Core.List.{List, [], _∷_, _++_}
+use mathlib.Core.Logic.{inl, ⊎-elim}
+use Prim.Native.Nat.{ℕ, _+_, _≤_, _<_}
+use native.Mathlib.Nat.{add-comm}
+use native.Mathlib.Numerals.{add-one}
+use native.Mathlib.Omega.{arith}
+use borrow.Author.Tests.{le-leb, lt-leb, le-ltb, lt-ltb, ne-eqb, ltb-false, leb-true}
+use lib.ListN.{length, take, drop, getD, set, length-drop, length-append, List·getD-append, take-append-drop}
+use lib.Dec.{eqb, leb, ltb}
+use lib.Seq.{take-suc, take-suc-set, drop-set-lt, drop-drop, getD-drop, take-append-le, drop-append-le}
+use Rattle.kindi.proofs.Chains.{both}
+use Rattle.records.specs.declared.header.Header.{Header}
+use Rattle.records.specs.declared.header.Header.the-variants.{Whole, End, Short, Unmarked, Cut, Unknown}
+use Rattle.records.specs.Header.{headerLength, longestBody, isMarked, kindOf, setOf, bodyLength, isCut, isKind, readHeader, showsRecord}
+use Rattle.records.specs.Record.{answers, recordAnswer, stepBy, step, consumed}
+use Rattle.records.specs.Transcript.{Window}
+use Rattle.records.proofs.Headers.{Marked, whole-there, unknown-there}
+
+-- ---- moving to the front
+
+-- One byte more has been moved, and what stands behind it is as it was.
+pub moved-more : (i from : ℕ) (b b₀ : List ℕ) → from + i < length b₀ → i < length b → take i b ≡ take i (drop from b₀) → drop i b ≡ drop i b₀
+    → (take (i + 1) (set b i (getD b (from + i) 0)) ≡ take (i + 1) (drop from b₀)) × (drop (i + 1) (set b i (getD b (from + i) 0)) ≡ drop (i + 1) b₀)
+moved-more i from b b₀ there room so-far behind =
+    let v = getD b (from + i) 0 in
+    let left : i < length (drop from b₀) = simp length-drop (omega arith) in
+    let is : v ≡ getD (drop from b₀) i 0
+    = ap (λ (k : ℕ). getD b k 0) (add-comm from i) ∙ sym (getD-drop i b from 0) ∙ ap (λ (l : List ℕ). getD l from 0) behind
+    ∙ getD-drop i b₀ from 0 ∙ ap (λ (k : ℕ). getD b₀ k 0) (add-comm i from) ∙ sym (getD-drop from b₀ i 0) in (
+      rw add-one (take-suc-set b i v room ∙ ap₂ (λ (l : List ℕ) (x : ℕ). l ++ (x ∷ [])) so-far is ∙ sym (take-suc (drop from b₀) i 0 left)),
+      drop-set-lt (i + 1) b i v (omega arith) ∙ sym (drop-drop 1 i b) ∙ ap (drop 1) behind ∙ drop-drop 1 i b₀,
+    )
+
+-- ---- what a window shows
+
+-- A window that shows its record: its header is there; and the mark is another one, or the length is over the longest, or the body
+-- is there.
+pub shown-short : (window : List ℕ) → length window < 6 → false ≡ showsRecord window
+unfolding showsRecord
+shown-short window few = simp (lt-leb 6 (length window) few)
+
+pub shown-unmarked : (window : List ℕ) → 6 ≤ length window → isMarked window ≡ false → true ≡ showsRecord window
+unfolding showsRecord
+shown-unmarked window enough e = simp (le-leb 6 (length window) enough, e)
+
+pub shown-long : (window : List ℕ) (body : ℕ) → Marked window body → 8192 < body → true ≡ showsRecord window
+unfolding showsRecord
+shown-long window body m long =
+    let over : 8192 < bodyLength window = omega (arith, m .is-body, long) in
+    simp (le-leb 6 (length window) (m .enough), m .mark, lt-ltb _ _ over)
+
+pub shown-body : (window : List ℕ) (body : ℕ) → Marked window body → body ≤ 8192 → leb (6 + body) (length window) ≡ showsRecord window
+unfolding showsRecord
+shown-body window body m short =
+    let within : bodyLength window ≤ 8192 = omega (arith, m .is-body, short) in
+    simp (le-leb 6 (length window) (m .enough), m .mark, le-ltb _ _ within, m .is-body)
+
+-- The body is over the longest or it is there, in a window of the longest record.
+over-or-there : (over : Bool) (body len : ℕ) → ltb 8192 body ≡ over → 8198 ≤ len → over || leb (6 + body) len ≡ true
+over-or-there true body len e long = refl
+over-or-there false body len e long = le-leb (6 + body) len (omega (arith, ltb-false 8192 body e))
+
+or-true : (b : Bool) → b || true ≡ true
+or-true true = refl
+or-true false = refl
+
+-- A window of the longest record, or longer, shows its record.
+pub longest-shown : (window : List ℕ) → headerLength + longestBody ≤ length window → showsRecord window ≡ true
+unfolding showsRecord
+longest-shown window h =
+    simp (le-leb 6 (length window) (omega arith), over-or-there (ltb 8192 (bodyLength window)) (bodyLength window) (length window) refl h, or-true)
+
+-- ---- a window and what follows it
+
+-- The header by its fields and what is left.
+abbrev headerBy : ℕ → Bool → ℕ → ℕ → ℕ → Header
+headerBy left marked kind set body =
+    cond (eqb left 0) End
+    (cond (ltb left 6) Short
+    (cond (not marked) Unmarked
+    (cond (isCut left body) Cut
+    (cond (not (isKind kind)) (Unknown kind body)
+    (Whole kind set body)))))
+
+-- More of what is left changes nothing, once the record is shown.
+longer : (left more : ℕ) (marked over : Bool) (kind set body : ℕ) → ltb 8192 body ≡ over → 6 ≤ left
+    → not marked || (over || leb (6 + body) left) ≡ true → headerBy (left + more) marked kind set body ≡ headerBy left marked kind set body
+longer left more false over kind set body e h s =
+    simp (ne-eqb (left + more) 0 (omega arith), le-ltb (left + more) 6 (omega arith), ne-eqb left 0 (omega arith), le-ltb left 6 h)
+longer left more true true kind set body e h s =
+    simp (ne-eqb (left + more) 0 (omega arith), le-ltb (left + more) 6 (omega arith), ne-eqb left 0 (omega arith), le-ltb left 6 h, e)
+longer left more true false kind set body e h s =
+    let there = leb-true (6 + body) left s in
+    simp
+    (ne-eqb (left + more) 0 (omega arith), le-ltb (left + more) 6 (omega arith), ne-eqb left 0 (omega arith), le-ltb left 6 h, le-ltb (left + more) (6 + body) (omega arith), le-ltb left (6 + body) there)
+
+module _ (window more : List ℕ) where
+  -- A window that shows its record has the header of the whole rest.
+  pub shown-header : showsRecord window ≡ true → readHeader (window ++ more) ≡ readHeader window
+  unfolding showsRecord readHeader
+  shown-header e =
+      let shown = both _ _ e in
+      let h : 6 ≤ length window = leb-true 6 (length window) (shown .0) in
+      let at : (i : ℕ) → i < 6 → getD (window ++ more) i 0 ≡ getD window i 0 = λ i l. List·getD-append window more 0 i (omega arith) in
+      rw
+      (length-append window more, at 0 (omega arith), at 1 (omega arith), at 2 (omega arith), at 3 (omega arith), at 4 (omega arith), at 5 (omega arith))
+      (longer (length window) (length more) (isMarked window) (ltb 8192 (bodyLength window)) (kindOf window) (setOf window) (bodyLength window) refl h (shown .1))
+
+  -- Its body is there.
+  same-body : (body : ℕ) → 6 + body ≤ length window → take body (drop 6 (window ++ more)) ≡ take body (drop 6 window)
+  same-body body h =
+      ap (take body) (drop-append-le 6 window more (omega arith))
+      ∙ take-append-le body (drop 6 window) more (simp length-drop (omega arith))
+
+  same-step : (header : Header) → header ≡ readHeader window → stepBy (window ++ more) header ≡ stepBy window header
+  unfolding stepBy
+  same-step (Whole kind set body) e =
+      ap (λ (bytes : List ℕ). answers kind (recordAnswer kind set bytes) (6 + body)) (same-body body (whole-there window e))
+  same-step End e = refl
+  same-step Short e = refl
+  same-step Unmarked e = refl
+  same-step Cut e = refl
+  same-step (Unknown kind body) e = refl
+
+  -- And gives its step.
+  pub shown-step : showsRecord window ≡ true → step (window ++ more) ≡ step window
+  unfolding step
+  shown-step e = ap (stepBy (window ++ more)) (shown-header e) ∙ same-step (readHeader window) refl
+
+-- A window gives the step of the whole rest.
+pub window-step : (window rest : List ℕ) → Window window rest → step window ≡ step rest
+window-step window rest w =
+    ⊎-elim
+    (λ e.
+    let whole : window ++ drop (length window) rest ≡ rest = ap (λ (l : List ℕ). l ++ drop (length window) rest) (w .front) ∙ take-append-drop (length window) rest in
+    sym (shown-step window (drop (length window) rest) e) ∙ ap step whole)
+    (λ e. ap step e) (w .enough)
+
+-- So does one of the longest record, or longer.
+pub longest-step : (window rest : List ℕ) → window ≡ take (length window) rest → headerLength + longestBody ≤ length window → step window ≡ step rest
+longest-step window rest front long = window-step window rest (record { front = front; enough = inl (longest-shown window long) })
+
+-- A step reads no more than is left.
+within-by : (rest : List ℕ) (header : Header) → header ≡ readHeader rest → consumed (stepBy rest header) ≤ length rest
+unfolding stepBy consumed
+within-by rest (Whole kind set body) e = whole-there rest e
+within-by rest End e = omega arith
+within-by rest Short e = omega arith
+within-by rest Unmarked e = omega arith
+within-by rest Cut e = omega arith
+within-by rest (Unknown kind body) e = unknown-there rest e
+
+pub consumed-within : (rest : List ℕ) → consumed (step rest) ≤ length rest
+unfolding step
+consumed-within rest = within-by rest (readHeader rest) refl

@@ -1,0 +1,136 @@
+-- `records::step::step` meets its contract: a refusal leaves early, and the line of a whole record has its answer.
+-- Assumes nothing.
+use mathlib.Core.Path.{sym, _∙_}
+use native.Mathlib.Omega.{arith}
+use borrow.Author.Needs.{needs}
+use denote.Ref.{now}
+use lib.Seq.{length-take-le}
+use lib.ListN.{length-take}
+use Rattle.records.proofs.Stepping.{not-whole, refused-exit, whole-exit}
+use Rattle.records.proofs.Headers.{whole-there}
+use Rattle.records.proofs.step.step.Statement.{statement}
+use Rattle.records.proofs.step.step.Tie as tie
+
+read-header-requires : tie.Need-read-header-requires
+read-header-requires c κs = search needs
+
+enum-known-header : tie.Need-enum-known-header
+enum-known-header c = search needs
+
+refuse-requires : tie.Need-refuse-requires
+refuse-requires c κs =
+    (c .before .before .before .before .before .before .before .before .pre .few, omega (arith, c .before .before .before .before .before .before .before .before .pre .line-fits), not-whole (c .before .before .read-header .result) (c .before .match .keys2))
+
+same-length : tie.Need-same-length
+same-length c = search needs
+
+returns : tie.Need-returns
+returns c =
+    let a = c .before .before .before .before .before .before .before .before .before .before .before .args in
+    refused-exit (a .done) (a .at) (now (a .out)) (now (a .rest)) (c .before .before .before .before .before .read-header .result) (c .before .before .before .before .before .read-header .ensures)
+    (not-whole (c .before .before .before .before .before .read-header .result) (c .before .before .before .before .match .keys2)) (c .before .before .refuse .ensures)
+
+cast-end : tie.Need-cast-end
+cast-end c = search needs
+
+add-end : tie.Need-add-end
+add-end c = search needs
+
+cast-answer : tie.Need-cast-answer
+cast-answer c = search needs
+
+sub-answer : tie.Need-sub-answer
+sub-answer c = search needs
+
+part-answer-start : tie.Need-part-answer-start
+part-answer-start c = search needs
+
+part-answer-end : tie.Need-part-answer-end
+part-answer-end c =
+    omega (arith, whole-there (now (c .before .before .before .before .before .before .before .before .before .args .rest)) (sym (c .before .header .given .1) ∙ c .before .before .before .read-header .ensures))
+
+answer-requires : tie.Need-answer-requires
+answer-requires c κs = search needs
+
+add-put-line : tie.Need-add-put-line
+add-put-line c = search needs
+
+slice-reshare-prefix-put-line : tie.Need-slice-reshare-prefix-put-line
+slice-reshare-prefix-put-line c = search needs
+
+slice-aggregate-put-line : tie.Need-slice-aggregate-put-line
+slice-aggregate-put-line c =
+    sym (length-take-le _ _ (omega (arith, c .before .before .before .before .before .before .before .answer .ensures .first-fits, c .before .before .before .before .before .before .before .before .before .before .before .before .before .before .before .before .before .before .before .before .before .pre .room .first-long)))
+
+slice-reshare-prefix-put-line-2 : tie.Need-slice-reshare-prefix-put-line-2
+slice-reshare-prefix-put-line-2 c = search needs
+
+slice-aggregate-put-line-2 : tie.Need-slice-aggregate-put-line-2
+slice-aggregate-put-line-2 c =
+    sym (length-take-le _ _ (omega (arith, c .before .before .before .before .before .before .before .before .answer .ensures .second-fits, c .before .before .before .before .before .before .before .before .before .before .before .before .before .before .before .before .before .before .before .before .before .before .pre .room .second-long)))
+
+put-line-requires : tie.Need-put-line-requires
+put-line-requires c κs =
+    let o = c .before .before .before .before .before .before .before .before .before .answer in
+    omega (arith, c .before .before .before .before .before .before .before .before .before .before .before .before .before .before .before .before .before .before .before .before .before .before .before .pre .line-fits, o .ensures .first-fits, o .ensures .second-fits, length-take (o .result .first) (o .last .1 .1 .1 .0), length-take (o .result .second) (o .last .1 .1 .1 .1 .0))
+
+add-new : tie.Need-add-new
+add-new c = search needs
+
+add-new-2 : tie.Need-add-new-2
+add-new-2 c = search needs
+
+new-requires : tie.Need-new-requires
+new-requires c κs = search needs
+
+same-length-2 : tie.Need-same-length-2
+same-length-2 c = search needs
+
+same-length-3 : tie.Need-same-length-3
+same-length-3 c = search needs
+
+same-length-4 : tie.Need-same-length-4
+same-length-4 c = search needs
+
+same-length-5 : tie.Need-same-length-5
+same-length-5 c = search needs
+
+returns-2 : tie.Need-returns-2
+returns-2 c =
+    let a = c .before .before .before .before .before .before .before .before .before .before .before .before .before .before .before .before .before .before .before .before .before .before .before .before .before .before .before .args in
+    let h = c .before .before .before .before .before .before .before .before .before .before .before .before .before .before .before .before .before .before .before .header in
+    let o = c .before .before .before .before .before .before .before .before .before .before .before .before .before .answer in
+    rw (c .new .ensures)
+    (whole-exit (a .done) (a .at) (now (a .out)) (now (a .rest)) (h .given .0 .0) (h .given .0 .1 .0) (h .given .0 .1 .1 .0)
+    (o .last .1 .1 .1 .0) (o .last .1 .1 .1 .1 .0) (sym (h .given .1) ∙ c .before .before .before .before .before .before .before .before .before .before .before .before .before .before .before .before .before .before .before .before .before .read-header .ensures) (o .ensures) (c .before .before .before .put-line .ensures))
+
+pub step-spec : {M : Type 1} → statement M
+step-spec =
+    tie.close
+    (tie.spec
+    read-header-requires
+    enum-known-header
+    refuse-requires
+    same-length
+    returns
+    cast-end
+    add-end
+    cast-answer
+    sub-answer
+    part-answer-start
+    part-answer-end
+    answer-requires
+    add-put-line
+    slice-reshare-prefix-put-line
+    slice-aggregate-put-line
+    slice-reshare-prefix-put-line-2
+    slice-aggregate-put-line-2
+    put-line-requires
+    add-new
+    add-new-2
+    new-requires
+    same-length-2
+    same-length-3
+    same-length-4
+    same-length-5
+    returns-2)
