@@ -1,0 +1,112 @@
+-- `linkcheck::fill` meets its contract: what is left to read falls with every read.
+-- Assumes nothing.
+use mathlib.Core.Path.{_≡_, sym}
+use mathlib.Core.Bool.{cond}
+use Prim.Native.Nat.{_+_, _-_, _≤_}
+use native.Mathlib.Omega.{arith}
+use borrow.Rule.Slice.PartMut.{same-len-mid}
+use lib.Seq.{length-take-le}
+use lib.ListN.{length}
+use Rattle.linkcheck.proofs.Turns.{read-falls}
+use Rattle.linkcheck.proofs.fill.Statement.{statement}
+use Rattle.linkcheck.proofs.fill.Tie as tie
+
+abbrev Inv-loop : tie.InvT-loop
+Inv-loop s input₀ from to end₀ open₀ input end «open» = (end ≤ length input) × (length input ≡ length input₀)
+
+abbrev μ-loop : tie.MeasureT-loop
+μ-loop s input₀ from to end₀ open₀ input end «open» = (length input - end) + cond «open» 1 0
+
+to-front-requires : tie.Need-to-front-requires Inv-loop μ-loop
+to-front-requires c κs = omega arith
+
+sub-end : tie.Need-sub-end Inv-loop μ-loop
+sub-end c = omega arith
+
+loop-holds : tie.Need-loop-holds Inv-loop μ-loop
+loop-holds c = omega arith
+
+slice-reshare-prefix-shows-record : tie.Need-slice-reshare-prefix-shows-record Inv-loop μ-loop
+slice-reshare-prefix-shows-record c = omega arith
+
+slice-aggregate-shows-record : tie.Need-slice-aggregate-shows-record Inv-loop μ-loop
+slice-aggregate-shows-record c = sym (length-take-le _ _ (c .before .before .loop .inv .0))
+
+shows-record-requires : tie.Need-shows-record-requires Inv-loop μ-loop
+shows-record-requires c κs = omega arith
+
+sub-read : tie.Need-sub-read Inv-loop μ-loop
+sub-read c = omega arith
+
+part-read-start : tie.Need-part-read-start Inv-loop μ-loop
+part-read-start c = omega arith
+
+part-read-end : tie.Need-part-read-end Inv-loop μ-loop
+part-read-end c = omega arith
+
+read-requires : tie.Need-read-requires Inv-loop μ-loop
+read-requires c κs = omega arith
+
+sub-count : tie.Need-sub-count Inv-loop μ-loop
+sub-count c = omega arith
+
+part-count-start : tie.Need-part-count-start Inv-loop μ-loop
+part-count-start c = omega arith
+
+part-count-end : tie.Need-part-count-end Inv-loop μ-loop
+part-count-end c = omega arith
+
+count-requires : tie.Need-count-requires Inv-loop μ-loop
+count-requires c κs = omega arith
+
+add-end : tie.Need-add-end Inv-loop μ-loop
+add-end c = omega arith
+
+loop-less : tie.Need-loop-less Inv-loop μ-loop
+loop-less c =
+    let h = c .before .before .before .before .before .before .before .before .before .before .before .loop in
+    let long = same-len-mid (h .end) (length (h .input) - h .end) (h .input) (c .before .before .before .before .before .read .last .1 .0) (c .before .before .before .before .before .read .kept .1 .0) in
+    rw (long, c .before .before .before .before .before .before .before .before .before .before .loop-test .taken) (read-falls (length (h .input)) (h .end) (c .count .result) (omega arith))
+
+loop-again : tie.Need-loop-again Inv-loop μ-loop
+loop-again c = omega arith
+
+same-length : tie.Need-same-length Inv-loop μ-loop
+same-length c = omega arith
+
+returns : tie.Need-returns Inv-loop μ-loop
+returns c = omega arith
+
+same-length-2 : tie.Need-same-length-2 Inv-loop μ-loop
+same-length-2 c = omega arith
+
+returns-2 : tie.Need-returns-2 Inv-loop μ-loop
+returns-2 c = omega arith
+
+pub fill-spec : {M : Type 1} → statement M
+fill-spec =
+    tie.close
+    (tie.spec
+    Inv-loop
+    μ-loop
+    to-front-requires
+    sub-end
+    loop-holds
+    slice-reshare-prefix-shows-record
+    slice-aggregate-shows-record
+    shows-record-requires
+    sub-read
+    part-read-start
+    part-read-end
+    read-requires
+    sub-count
+    part-count-start
+    part-count-end
+    count-requires
+    add-end
+    loop-less
+    loop-again
+    same-length
+    returns
+    same-length-2
+    returns-2)

@@ -1,0 +1,147 @@
+-- `linkcheck::run` meets its contract: the places stay within their buffers, and the records that are left to answer fall.
+-- Assumes nothing.
+use mathlib.Core.Bool.{false, cond}
+use mathlib.Core.Path.{_≡_, refl, sym, _∙_}
+use Prim.Native.Nat.{_-_, _<_}
+use native.Mathlib.Omega.{arith}
+use borrow.Author.Tests.{not-true}
+use borrow.Author.Needs.{needs}
+use lib.Seq.{length-take-le}
+use lib.ListN.{length}
+use Rattle.linkcheck.specs.Places.{Places}
+use Rattle.linkcheck.proofs.Turns.{written-within, turn-falls}
+use Rattle.linkcheck.proofs.run.Statement.{statement}
+use Rattle.linkcheck.proofs.run.Tie as tie
+
+abbrev Inv-loop : tie.InvT-loop
+Inv-loop input₀ out₀ first₀ second₀ work₀ s₀ ended₀ input out first second work s ended =
+    (length input ≡ length input₀) × (length out ≡ length out₀) × (length first ≡ length first₀) × (length second ≡ length second₀)
+    × (length work ≡ length work₀) × Places (s .from) (s .to) (s .at) input out × (ended ≡ false → s .done < 65535)
+
+abbrev μ-loop : tie.MeasureT-loop
+μ-loop input₀ out₀ first₀ second₀ work₀ s₀ ended₀ input out first second work s ended = cond ended 0 (65535 - s .done)
+
+loop-holds : tie.Need-loop-holds Inv-loop μ-loop
+loop-holds c =
+    (refl, refl, refl, refl, refl, record { in-order = omega arith; in-input = omega arith; in-output = omega arith; room = omega (arith, c .before .before .before .before .before .pre .1) }, λ e. omega arith)
+
+ready-requires : tie.Need-ready-requires Inv-loop μ-loop
+ready-requires c κs = c .before .before .before .loop .inv .5
+
+same-length : tie.Need-same-length Inv-loop μ-loop
+same-length c = search needs
+
+same-length-2 : tie.Need-same-length-2 Inv-loop μ-loop
+same-length-2 c = search needs
+
+same-length-3 : tie.Need-same-length-3 Inv-loop μ-loop
+same-length-3 c = search needs
+
+same-length-4 : tie.Need-same-length-4 Inv-loop μ-loop
+same-length-4 c = search needs
+
+same-length-5 : tie.Need-same-length-5 Inv-loop μ-loop
+same-length-5 c = search needs
+
+returns : tie.Need-returns Inv-loop μ-loop
+returns c = tt
+
+answer-requires : tie.Need-answer-requires Inv-loop μ-loop
+answer-requires c κs =
+    record { in-order = c .before .before .before .before .before .before .before .before .ready .ensures .0; in-input = omega (arith, c .before .before .before .before .before .before .before .before .ready .ensures .1, c .before .before .before .before .before .before .before .before .ready .kept .1 .0); step-room = record { few = omega (arith, c .before .before .before .before .before .before .before .before .ready .ensures .2, c .before .before .before .before .before .before .before .before .before .before .before .before .loop .inv .6 (not-true _ (c .before .before .before .before .before .before .before .before .before .before .before .loop-test .taken))); line-fits = c .before .before .before .before .before .before .before .before .ready .ensures .3; room = record { first-long = omega (arith, c .before .before .before .before .before .before .before .before .before .before .before .before .before .before .before .before .before .before .pre .2, c .before .before .before .before .before .before .before .before .before .before .before .before .loop .inv .2); second-long = omega (arith, c .before .before .before .before .before .before .before .before .before .before .before .before .before .before .before .before .before .before .pre .3, c .before .before .before .before .before .before .before .before .before .before .before .before .loop .inv .3); work-long = omega (arith, c .before .before .before .before .before .before .before .before .before .before .before .before .before .before .before .before .before .before .pre .4, c .before .before .before .before .before .before .before .before .before .before .before .before .loop .inv .4) } } }
+
+loop-less : tie.Need-loop-less Inv-loop μ-loop
+loop-less c =
+    rw (not-true (c .before .before .before .before .before .before .before .before .before .before .before .before .before .before .before .before .before .before .before .before .before .loop .ended) (c .before .before .before .before .before .before .before .before .before .before .before .before .before .before .before .before .before .before .before .before .loop-test .taken)) (turn-falls (c .before .before .before .before .before .before .before .before .answer .result .ended) (c .before .before .before .before .before .before .before .before .before .before .before .before .before .before .before .before .before .before .before .before .before .loop .s .done) (c .before .before .before .before .before .before .before .before .answer .result .done) (rw (c .before .before .before .before .before .before .before .before .before .before .before .before .before .before .before .before .before .ready .ensures .2) at (c .before .before .before .before .before .before .before .before .answer .ensures .1)) (c .before .before .before .before .before .before .before .before .before .before .before .before .before .before .before .before .before .before .before .before .before .loop .inv .6 (not-true (c .before .before .before .before .before .before .before .before .before .before .before .before .before .before .before .before .before .before .before .before .before .loop .ended) (c .before .before .before .before .before .before .before .before .before .before .before .before .before .before .before .before .before .before .before .before .loop-test .taken))))
+
+loop-again : tie.Need-loop-again Inv-loop μ-loop
+loop-again c =
+    (c .before .before .before .before .before .before .before .before .before .before .before .before .before .before .before .before .before .ready .kept .1 .0 ∙ c .before .before .before .before .before .before .before .before .before .before .before .before .before .before .before .before .before .before .before .before .before .loop .inv .0, c .before .before .before .before .before .before .before .before .answer .kept .1 .1 .0 ∙ c .before .before .before .before .before .before .before .before .before .before .before .before .before .before .before .before .before .before .before .before .before .loop .inv .1, c .before .before .before .before .before .before .before .before .answer .kept .1 .1 .1 .0 ∙ c .before .before .before .before .before .before .before .before .before .before .before .before .before .before .before .before .before .before .before .before .before .loop .inv .2, c .before .before .before .before .before .before .before .before .answer .kept .1 .1 .1 .1 .0 ∙ c .before .before .before .before .before .before .before .before .before .before .before .before .before .before .before .before .before .before .before .before .before .loop .inv .3, c .before .before .before .before .before .before .before .before .answer .kept .1 .1 .1 .1 .1 .0 ∙ c .before .before .before .before .before .before .before .before .before .before .before .before .before .before .before .before .before .before .before .before .before .loop .inv .4, c .before .before .before .before .before .before .before .before .answer .ensures .0, λ e. omega (arith, c .before .before .before .before .before .before .before .before .answer .ensures .1 .one-more e, c .before .before .before .before .before .before .before .before .answer .ensures .1 .not-last e))
+
+flush-requires : tie.Need-flush-requires Inv-loop μ-loop
+flush-requires c κs = c .before .before .loop .inv .5 .in-output
+
+same-length-6 : tie.Need-same-length-6 Inv-loop μ-loop
+same-length-6 c = search needs
+
+same-length-7 : tie.Need-same-length-7 Inv-loop μ-loop
+same-length-7 c = search needs
+
+same-length-8 : tie.Need-same-length-8 Inv-loop μ-loop
+same-length-8 c = search needs
+
+same-length-9 : tie.Need-same-length-9 Inv-loop μ-loop
+same-length-9 c = search needs
+
+same-length-10 : tie.Need-same-length-10 Inv-loop μ-loop
+same-length-10 c = search needs
+
+returns-2 : tie.Need-returns-2 Inv-loop μ-loop
+returns-2 c = tt
+
+put-end-requires : tie.Need-put-end-requires Inv-loop μ-loop
+put-end-requires c κs = omega (arith, c .before .before .before .before .before .loop .inv .5 .room)
+
+slice-reshare-prefix-write-all : tie.Need-slice-reshare-prefix-write-all Inv-loop μ-loop
+slice-reshare-prefix-write-all c =
+    written-within _ _ _ 0 (c .before .before .put-end .result) (omega arith) (c .before .before .put-end .ensures)
+
+slice-aggregate-write-all : tie.Need-slice-aggregate-write-all Inv-loop μ-loop
+slice-aggregate-write-all c =
+    sym (length-take-le _ _ (written-within _ _ _ 0 (c .before .before .before .put-end .result) (omega arith) (c .before .before .before .put-end .ensures)))
+
+write-all-requires : tie.Need-write-all-requires Inv-loop μ-loop
+write-all-requires c κs = tt
+
+same-length-11 : tie.Need-same-length-11 Inv-loop μ-loop
+same-length-11 c = search needs
+
+same-length-12 : tie.Need-same-length-12 Inv-loop μ-loop
+same-length-12 c = search needs
+
+same-length-13 : tie.Need-same-length-13 Inv-loop μ-loop
+same-length-13 c = search needs
+
+same-length-14 : tie.Need-same-length-14 Inv-loop μ-loop
+same-length-14 c = search needs
+
+same-length-15 : tie.Need-same-length-15 Inv-loop μ-loop
+same-length-15 c = search needs
+
+returns-3 : tie.Need-returns-3 Inv-loop μ-loop
+returns-3 c = tt
+
+pub run-spec : {M : Type 1} → statement M
+run-spec =
+    tie.close
+    (tie.spec
+    Inv-loop
+    μ-loop
+    loop-holds
+    ready-requires
+    same-length
+    same-length-2
+    same-length-3
+    same-length-4
+    same-length-5
+    returns
+    answer-requires
+    loop-less
+    loop-again
+    flush-requires
+    same-length-6
+    same-length-7
+    same-length-8
+    same-length-9
+    same-length-10
+    returns-2
+    put-end-requires
+    slice-reshare-prefix-write-all
+    slice-aggregate-write-all
+    write-all-requires
+    same-length-11
+    same-length-12
+    same-length-13
+    same-length-14
+    same-length-15
+    returns-3)
