@@ -28,10 +28,10 @@ use Rattle.kindi.specs.Encrypt.{noiseless}
 use Rattle.kindi.specs.Decrypt.{cipherPart, remainder, remainders, errorsFit, roundedCoins}
 use Rattle.kindi.proofs.Strings.{coefficient-packed, whole-bytes}
 use Rattle.kindi.proofs.Padding.{length-mask}
-use Rattle.pke.specs.Layout.{cipherFrom}
-use Rattle.pke.proofs.Assembly.{streams-cipher}
-use Rattle.pke.proofs.Joining.{pack-joined}
-use Rattle.pke.proofs.Masks.{drop-past}
+use Rattle.encryption.specs.Layout.{cipherFrom}
+use Rattle.encryption.proofs.Assembly.{streams-cipher}
+use Rattle.vectors.proofs.Joining.{pack-joined}
+use Rattle.encryption.proofs.Expanding.{drop-past}
 use Rattle.decryption.specs.Opened.{maskCipher, leftPoly, leftOver, opened, OpenExit}
 use Rattle.decryption.proofs.Left.{length-left}
 

@@ -32,7 +32,7 @@ fn encrypt_mask(p: Params, pk: &[u8], coins: &[u8], made: &mut [u8], work: &mut 
     let seed = lengths::stored(p);
     hash::shake(p.rate, &pk[seed..], &mut work[..matrix]);
     hash::shake(p.rate, coins, &mut work[matrix..need]);
-    pke::encrypt::assemble(p, pk, coins, &work[..need], made);
+    encryption::assemble(p, pk, coins, &work[..need], made);
 }
 
 // The recovered coins of a secret key and a ciphertext. It stands apart from `open`, and both have two callers, so that

@@ -43,7 +43,7 @@ fn open_key(
     kem::digest(p, found, d);
     let at = lengths::matrix(p) + lengths::low(p);
     let end = at + lengths::padded(p);
-    pke::encrypt::add_padded(d, &mut work[at..end]);
+    cipher_terms::add_padded(d, &mut work[at..end]);
     let equal = padding::all_zero(&work[at..end]);
     let differs = checks::refuse_if(!equal, 7, 0);
     let outcome = checks::refuse_if(!fits, 5, differs);

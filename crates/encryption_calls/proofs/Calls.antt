@@ -17,7 +17,8 @@ use Rattle.kindi.specs.Calls.{number, inSet, keygenCall, encryptCall, encapsCal
 use Rattle.kindi.proofs.Chains.{same-length, both}
 use Rattle.kindi.proofs.Sets.{of-set-well}
 use Rattle.calls.proofs.Ends.{number-check, check-both, too-short, accepted}
-use Rattle.pke.specs.Inputs.{KeygenRoom, EncryptRoom}
+use Rattle.keys.specs.Inputs.{KeygenRoom}
+use Rattle.encryption.specs.Inputs.{EncryptRoom}
 use Rattle.encryption_calls.specs.Status.{keygenStatus, encryptStatus, encapsStatus}
 
 -- What status 0 says: there is such a set, the lengths fit, and the answer is these values.

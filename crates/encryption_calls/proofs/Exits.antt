@@ -13,7 +13,8 @@ use Rattle.kindi.specs.Answers.{Keys, Shared}
 use Rattle.kindi.specs.Calls.{number, workAfter, keygenCall, encryptCall, encapsCall}
 use Rattle.calls.proofs.Ends.{unchanged, given, wiped-any}
 use Rattle.encryption_calls.proofs.Calls.{Done, encrypt-status, encrypt-done, encaps-status, encaps-done, keygen-status, keygen-done, keys, shared}
-use Rattle.pke.specs.Inputs.{KeygenRoom, EncryptRoom}
+use Rattle.keys.specs.Inputs.{KeygenRoom}
+use Rattle.encryption.specs.Inputs.{EncryptRoom}
 use Rattle.encryption_calls.specs.Status.{keygenStatus, encryptStatus, encapsStatus}
 use Rattle.encryption_calls.specs.Exits.{KeygenExit, EncryptExit, EncapsExit}
 

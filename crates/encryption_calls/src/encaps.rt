@@ -52,7 +52,7 @@ pub fn encaps(
         return status;
     }
     kem::digest(p, coins, key);
-    pke::encrypt::encrypt(p, pk, coins, key, ct, work);
+    encryption::encrypt(p, pk, coins, key, ct, work);
     kem::shared_key(p, coins, ct, key);
     work::finish(set, need, work);
     0

@@ -57,7 +57,7 @@ pub fn encrypt(
         work::finish(set, need, work);
         return status;
     }
-    pke::encrypt::encrypt(p, pk, coins, message, ct, work);
+    encryption::encrypt(p, pk, coins, message, ct, work);
     work::finish(set, need, work);
     0
 }

@@ -60,7 +60,7 @@ pub fn keygen(
         work::finish(set, need, work);
         return status;
     }
-    pke::keygen::keygen(p, mu, gamma, z, pk, sk, work);
+    keys::keygen(p, mu, gamma, z, pk, sk, work);
     work::finish(set, need, work);
     0
 }

@@ -19,8 +19,8 @@ use Rattle.kindi.specs.Params.{WellFormed, modulus, lengthOf, storedLength, pub
 use Rattle.kindi.specs.Keys.{compress, joined, public, publicKey, publicPart, matrixSeed, secretSeed}
 use Rattle.kindi.specs.Answers.{same, agrees}
 use Rattle.kindi.proofs.Strings.{length-joined, joined-below, length-string}
-use Rattle.pke.specs.Layout.{storedFrom}
-use Rattle.pke.proofs.Made.{low-same, compressed-below, keyStreams, stored-of}
+use Rattle.keys.specs.Layout.{storedFrom}
+use Rattle.keys.proofs.Made.{low-same, compressed-below, keyStreams, stored-of}
 use Rattle.noise.specs.Terms.{droppedBits}
 use Rattle.noise.specs.Rooms.{valueOf}
 

@@ -28,9 +28,8 @@ use Rattle.kindi.specs.Encrypt.{masked, error}
 use Rattle.kindi.specs.Noise.{keyNoise, noise, noises}
 use Rattle.kindi.proofs.Padding.{length-masked}
 use Rattle.kindi.proofs.Strings.{coefficient-packed}
-use Rattle.pke.proofs.Masks.{masked-is}
-use Rattle.pke.proofs.Made.{keyStreams, streams-long}
-use Rattle.pke.proofs.Assembly.{low-there, length-stream, stream-below}
+use Rattle.keys.proofs.Made.{keyStreams, streams-long}
+use Rattle.cipher_terms.proofs.Masks.{masked-is, low-there, length-stream, stream-below}
 use Rattle.noise.specs.Rooms.{valueOf, Kept}
 use Rattle.noise.specs.Terms.{keyNoiseIn, noiseIn, noisesFrom}
 use Rattle.noise.proofs.Products.{ofInts-table}

@@ -14,9 +14,9 @@ mod agreement;
 mod factors;
 mod sums;
 
+use cipher_terms::add_padded;
+use keys::public_polynomials;
 use kindi::Params;
-use pke::encrypt::add_padded;
-use pke::keygen::public_polynomials;
 use vectors::lengths;
 
 // Whether a pair is clear, and the largest absolute value of its noise.

@@ -2,3 +2,4 @@
 pub mod Amounts
 pub mod Reading
 pub mod Sums
+pub mod Joining

@@ -1,10 +1,10 @@
 -- `decryption::encrypt_mask` meets its contract.
 -- Assumes nothing.
 use Rattle.decryption.proofs.Masked.{streams-long, mask-cipher}
-use Rattle.pke.proofs.Joining.{two-streams}
+use Rattle.vectors.proofs.Joining.{two-streams}
 use Rattle.keccak.proofs.Parts.{patched, take-rest}
 use Rattle.hash.specs.Shake.{shake}
-use Rattle.pke.specs.Layout.{cipherFrom}
+use Rattle.encryption.specs.Layout.{cipherFrom}
 use Rattle.kindi.specs.Keys.{matrixSeed}
 use Rattle.kindi.specs.Params.{matrixLength, coinsStreamLength, encryptWork}
 use Rattle.kindi.specs.Streams.{coinsStream}

@@ -11,7 +11,7 @@ use Rattle.keccak.proofs.Parts.{patched}
 use Rattle.kindi.specs.Params.{lengthOf}
 use Rattle.kindi.specs.Keys.{publicPart, matrixSeed, secretSeed}
 use Rattle.kindi.specs.Answers.{same}
-use Rattle.pke.proofs.Made.{keyStreams, streams-made, streams-long}
+use Rattle.keys.proofs.Made.{keyStreams, streams-made, streams-long}
 use Rattle.noise.specs.Terms.{droppedBits}
 use Rattle.noise.proofs.Agreeing.{value-made, agrees-is}
 use Rattle.noise.proofs.Streams.{matrix-seed-part, secret-seed-part, stream-there}

@@ -4,7 +4,7 @@ use Rattle.decryption.proofs.Value.{secret-fits, coins-recovered}
 use Rattle.decryption.specs.Opened.{coinsFrom}
 use Rattle.hash.specs.Shake.{shake}
 use Rattle.kindi.specs.Params.{width, lengthOf}
-use Rattle.pke.proofs.Joining.{first-same}
+use Rattle.vectors.proofs.Joining.{first-same}
 use lib.ListN.{length, take, drop, length-take}
 use lib.Seq.{take-at}
 use Prim.Native.Nat.{ℕ, _*_, _≤_}

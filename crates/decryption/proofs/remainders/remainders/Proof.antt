@@ -3,7 +3,7 @@
 use Rattle.decryption.proofs.Left.{left-rest, length-left-all, fits-more}
 use Rattle.decryption.specs.Opened.{leftOver}
 use Rattle.vectors.proofs.Amounts.{Placed, placed, length-add, length-none, width-bound, part-length, fills}
-use Rattle.pke.proofs.Joining.{joined-turn, joined-end}
+use Rattle.vectors.proofs.Joining.{joined-turn, joined-end}
 use Rattle.kindi.specs.Params.{width, lengthOf}
 use Rattle.kindi.specs.Keys.{joined}
 use Rattle.kindi.specs.Decrypt.{allBelow}

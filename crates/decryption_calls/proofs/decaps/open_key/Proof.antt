@@ -6,7 +6,7 @@ use native.Mathlib.Omega.{arith}
 use denote.Ref.{now}
 use lib.ListN.{length}
 use Rattle.vectors.proofs.Amounts.{part-length}
-use Rattle.pke.proofs.Joining.{same-long}
+use Rattle.vectors.proofs.Joining.{same-long}
 use Rattle.decryption_calls.proofs.Fitted.{key-refused, key-answered}
 use Rattle.decryption_calls.proofs.decaps.open_key.Statement.{statement}
 use Rattle.decryption_calls.proofs.decaps.open_key.Tie as tie

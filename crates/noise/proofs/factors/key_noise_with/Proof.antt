@@ -14,7 +14,7 @@ use Rattle.kindi.specs.Params.{width}
 use Rattle.kindi.specs.Streams.{coefficient}
 use Rattle.kindi.proofs.Strings.{tabulate-below}
 use Rattle.vectors.proofs.Amounts.{width-bound, within}
-use Rattle.pke.proofs.Made.{errors-inside}
+use Rattle.keys.proofs.Made.{errors-inside}
 use Rattle.noise.specs.Terms.{keyNoiseIn}
 use Rattle.noise.proofs.Tables.{low-table, combined-table}
 use Rattle.noise.proofs.Bounds.{values-below, low-power}

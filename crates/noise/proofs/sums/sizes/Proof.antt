@@ -15,7 +15,7 @@ use mir.ValLaws.{toZ-ofZ}
 use Rattle.ring.specs.Integers.{largest, allBetween}
 use Rattle.kindi.specs.Params.{modulus}
 use Rattle.kindi.specs.Noise.{inside}
-use Rattle.pke.proofs.Joining.{rest-is}
+use Rattle.vectors.proofs.Joining.{rest-is}
 use Rattle.noise.specs.Terms.{noisesFrom}
 use Rattle.noise.proofs.Tables.{prefix-long, take-same}
 use Rattle.noise.proofs.Bounds.{quarter-fits}

@@ -1,0 +1,3 @@
+-- The laws that the proofs of `cipher_terms` share.
+pub mod Masks
+pub mod Terms

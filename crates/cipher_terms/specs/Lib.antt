@@ -1,0 +1,2 @@
+-- What the contracts of `cipher_terms` say.
+pub mod Inputs

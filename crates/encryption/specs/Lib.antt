@@ -1,0 +1,3 @@
+-- What the contracts of `encryption` say.
+pub mod Layout
+pub mod Inputs

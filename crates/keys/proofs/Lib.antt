@@ -1,0 +1,2 @@
+-- The laws that the proofs of `keys` share.
+pub mod Made

@@ -1,3 +1,0 @@
--- What the contracts of `pke` say.
-pub mod Layout
-pub mod Inputs
