@@ -1,8 +1,5 @@
 -- The laws that the proofs of `records` share.
 pub mod Headers
-pub mod Sizes
-pub mod Outcomes
-pub mod ByKind
 pub mod Stepping
 pub mod Windows
 pub mod Transcripts

@@ -14,13 +14,14 @@ use Rattle.kindi.specs.Answers.{Answer}
 use Rattle.kindi.specs.Calls.{number, output}
 use Rattle.kindi.proofs.Chains.{never}
 use Rattle.lines.specs.Line.{kindField, line, Written}
+use Rattle.record_calls.specs.declared.Outcome.{Outcome}
+use Rattle.record_calls.specs.Outputs.{Gives}
+use Rattle.record_calls.specs.Bodies.{recordAnswer}
 use Rattle.records.specs.declared.header.Header.{Header}
 use Rattle.records.specs.declared.header.Header.the-variants.{Whole, End, Short, Unmarked, Cut, Unknown}
 use Rattle.records.specs.declared.step.Stepped.{Stepped}
-use Rattle.records.specs.declared.bodies.Outcome.{Outcome}
-use Rattle.records.specs.Outputs.{Gives}
 use Rattle.records.specs.Header.{isWhole, readHeader}
-use Rattle.records.specs.Record.{finished, stopped, answers, recordAnswer, stepBy, step, stepLine, doneAfter, consumed, readingEnds}
+use Rattle.records.specs.Record.{finished, stopped, answers, stepBy, step, stepLine, doneAfter, consumed, readingEnds}
 use Rattle.records.specs.Steps.{StepExit}
 use Rattle.records.proofs.header.Header.{the-type}
 

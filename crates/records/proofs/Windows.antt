@@ -13,10 +13,11 @@ use lib.ListN.{length, take, drop, getD, set, length-drop, length-append, List·
 use lib.Dec.{eqb, leb, ltb}
 use lib.Seq.{take-suc, take-suc-set, drop-set-lt, drop-drop, getD-drop, take-append-le, drop-append-le}
 use Rattle.kindi.proofs.Chains.{both}
+use Rattle.record_calls.specs.Bodies.{recordAnswer}
 use Rattle.records.specs.declared.header.Header.{Header}
 use Rattle.records.specs.declared.header.Header.the-variants.{Whole, End, Short, Unmarked, Cut, Unknown}
 use Rattle.records.specs.Header.{headerLength, longestBody, isMarked, kindOf, setOf, bodyLength, isCut, isKind, readHeader, showsRecord}
-use Rattle.records.specs.Record.{answers, recordAnswer, stepBy, step, consumed}
+use Rattle.records.specs.Record.{answers, stepBy, step, consumed}
 use Rattle.records.specs.Transcript.{Window}
 use Rattle.records.proofs.Headers.{Marked, whole-there, unknown-there}
 

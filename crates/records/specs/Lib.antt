@@ -2,5 +2,4 @@
 pub mod Header
 pub mod Record
 pub mod Transcript
-pub mod Outputs
 pub mod Steps

@@ -4,9 +4,9 @@ use mathlib.Core.List.{List}
 use Prim.Native.Nat.{ℕ, suc, _+_, _*_, _≤_, _<_}
 use lib.ListN.{length}
 use Rattle.lines.specs.Line.{Written}
+use Rattle.record_calls.specs.Outputs.{firstMost, secondMost, Room}
 use Rattle.records.specs.declared.step.Stepped.{Stepped}
 use Rattle.records.specs.Record.{Step, mostRecords, stepLine, doneAfter, consumed, readingEnds}
-use Rattle.records.specs.Outputs.{firstMost, secondMost, Room}
 
 -- The room that the longest line takes.
 abbrev pub lineRoom : ℕ

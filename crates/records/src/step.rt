@@ -8,7 +8,6 @@ ghost use lib.ListN.{length};
 ghost use Rattle.records.specs.Header.{isWhole};
 ghost use Rattle.records.specs.Record.{stopped, stepBy, step as Record·step};
 ghost use Rattle.records.specs.Steps.{StepRoom, StepExit};
-use crate::bodies;
 use crate::header;
 use crate::header::Header;
 
@@ -85,7 +84,7 @@ pub fn step(
         return refuse(done, header, at, out);
     };
     let end = 6 + body as usize;
-    let outcome = bodies::answer(kind, set as u32, &rest[6..end], first, second, work);
+    let outcome = record_calls::answer(kind, set as u32, &rest[6..end], first, second, work);
     let a = outcome.first;
     let b = outcome.second;
     let next = lines::put_line(

@@ -37,7 +37,7 @@ put-hex-requires c κs = search needs
 -- src/lib.rt:70:5
 put-hex-requires-2 : tie.Need-put-hex-requires-2
 put-hex-requires-2 c κs =
-    omega (arith, length-hexadecimal (now (c .before .before .before .before .before .before .before .before .before .args .first)), c .before .before .before .put-hex .ensures .next-is)
+    omega (arith, length-hexadecimal (now (c .before .before .before .before .before .before .before .before .before .args .first)), length-hexadecimal (now (c .before .before .before .before .before .before .before .before .before .args .second)), c .before .before .before .put-hex .ensures .next-is)
 
 -- src/lib.rt:62:1
 same-length-2 : tie.Need-same-length-2

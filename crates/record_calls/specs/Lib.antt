@@ -1,0 +1,3 @@
+-- What the contracts of `record_calls` say.
+pub mod Bodies
+pub mod Outputs
