@@ -2,9 +2,9 @@
 """The built program linkcheck beside the records of the second implementation: the paper's example; every
 kind and set; bodies of every length that matters; headers and bodies that are cut, wrong marks, and what
 stands after them; damaged ciphertexts; the greatest number of records; random mixtures. Inputs come at
-once, as a file and in blocks of many sizes, down to single bytes, and output is read at once and slowly.
-Each time the program has to exit with 0 and to write nothing on standard error. Its memory must not grow
-with the input.
+once, as a file, record by record and in blocks of many sizes, down to single bytes, and output is read at
+once and slowly. Each time the program has to exit with 0 and to write nothing on standard error. Its memory
+must not grow with the input.
 
 usage: linkcheck.py [SEED [INPUTS]]    the seed of the random mixtures, and how many
 """
@@ -113,6 +113,25 @@ def left_open(data):
         write(process, data)
         process.wait()
         return content_of(out)
+
+
+def split(data):
+    """The records of an input, all of them whole."""
+    while data:
+        end = records.HEADER + records.body_length(data)
+        yield data[:end]
+        data = data[end:]
+
+
+def one_by_one(data):
+    """Each line has to be there before the next record is given."""
+    with started(stdout=subprocess.PIPE) as (process, _):
+        lines = []
+        for one in split(data):
+            write(process, one)
+            lines.append(process.stdout.readline())
+        process.stdin.close()
+        return b"".join(lines) + process.stdout.read()
 
 
 def in_blocks(size):
@@ -397,9 +416,15 @@ def reading_ends(stocks):
     yield Case("the last record, and the input stays open", SHORT * MOST_RECORDS, left_open)
 
 
+def prompt(stocks):
+    """Inputs that wait for their answers: a line is written before more input is awaited."""
+    for stock in stocks:
+        yield Case(f"set {stock.number}, record by record", b"".join(stock.answered + stock.refused) + AFTER, one_by_one)
+
+
 # The long ones come early, so that no processor waits for another at the end.
 PARTS = (paper, most_records, ways, damaged, length_limit, wrong_marks, lengths, cut_headers, cut_bodies, every_set,
-         every_kind, garbage, reading_ends)
+         every_kind, garbage, reading_ends, prompt)
 
 
 # Random mixtures

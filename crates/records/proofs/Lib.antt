@@ -3,3 +3,4 @@ pub mod Headers
 pub mod Stepping
 pub mod Windows
 pub mod Transcripts
+pub mod Examples
