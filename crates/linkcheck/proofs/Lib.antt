@@ -1,2 +1,2 @@
 -- The laws that the proofs of `linkcheck` share.
-pub mod Turns
+pub mod Laws

@@ -1,2 +1,2 @@
 -- What the contracts of `linkcheck` say.
-pub mod Places
+pub mod Turns

@@ -7,7 +7,7 @@ use libc::STDOUT_FILENO;
 ghost use mathlib.Core.Path.{_≡_};
 ghost use Prim.Native.Nat.{_+_, _≤_};
 ghost use lib.ListN.{length};
-ghost use Rattle.linkcheck.specs.Places.{Places, Buffers, GoesOn};
+ghost use Rattle.linkcheck.specs.Turns.{Places, Flushed, Filled, Ready, AnswerRoom, Answered};
 
 // The room that a line takes.
 const LINE: usize = 18518;
@@ -17,8 +17,8 @@ struct State {
     // What was read and is left stands in the input's buffer from `from` to `to`.
     from: usize,
     to: usize,
-    // Whether the input may go on.
-    open: bool,
+    // Whether the input may have more.
+    more: bool,
     // How many records have been answered.
     done: usize,
     // How many bytes of the output's buffer are to be written.
@@ -37,14 +37,14 @@ fn second_part() -> [u8; 5120]
 // Writes what the output has.
 fn flush(s: State, out: &[u8]) -> State
     requires { ⌜ s .at ≤ length (now out) ⌝ }
-    ensures { λ r. ⌜ (r .from ≡ s .from) × (r .to ≡ s .to) × (r .done ≡ s .done) × (r .at ≡ 0) ⌝ }
+    ensures { λ r. ⌜ Flushed s r ⌝ }
 {
     let at = s.at;
     let written = io::write_all(STDOUT_FILENO, &out[..at]);
     State {
         from: s.from,
         to: s.to,
-        open: s.open,
+        more: s.more,
         done: s.done,
         at: 0,
         ended: !written,
@@ -54,49 +54,60 @@ fn flush(s: State, out: &[u8]) -> State
 // Reads until the input shows a record, or ends.
 fn fill(s: State, input: &mut [u8]) -> State
     requires { ⌜ (s .from ≤ s .to) × (s .to ≤ length (now input)) ⌝ }
-    ensures { λ r. ⌜ (r .from ≤ r .to) × (r .to ≤ length (now (input .entry))) × (r .done ≡ s .done) × (r .at ≡ s .at) ⌝ }
+    ensures { λ r. ⌜ Filled s (now (input .entry)) r (now (input .exit)) ⌝ }
 {
     let from = s.from;
     let to = s.to;
     records::window::to_front(input, from, to);
     let mut end = to - from;
-    let mut open = true;
-    while open {
+    let mut more = true;
+    while more {
         if records::window::shows_record(&input[..end]) {
             break;
         }
         let got = libc::read(STDIN_FILENO, &mut input[end..]);
-        let more = io::count(got, &input[end..]);
-        open = more != 0;
-        end += more;
+        let count = io::count(got, &input[end..]);
+        more = count != 0;
+        end += count;
     }
     State {
         from: 0,
         to: end,
-        open: open,
+        more: more,
         done: s.done,
         at: s.at,
         ended: s.ended,
     }
 }
 
-// Sees to it that the input shows a record, where it has one, and that the output has room for a line.
-fn ready(s: State, input: &mut [u8], out: &[u8]) -> State
-    requires { ⌜ Places (s .from) (s .to) (s .at) (now input) (now out) ⌝ }
-    ensures { λ r. ⌜ (r .from ≤ r .to) × (r .to ≤ length (now (input .entry))) × (r .done ≡ s .done) × (r .at + 18518 ≤ length (now (out .entry))) ⌝ }
+// Sees to it that the output has room for a line.
+fn make_room(s: State, out: &[u8]) -> State
+    requires { ⌜ (s .at ≤ length (now out)) × (18518 ≤ length (now out)) ⌝ }
+    ensures { λ r. ⌜ (r .from ≡ s .from) × (r .to ≡ s .to) × (r .more ≡ s .more) × (r .done ≡ s .done) × (r .at + 18518 ≤ length (now (out .entry))) ⌝ }
 {
-    let from = s.from;
-    let to = s.to;
-    let waits = s.open && !records::window::shows_record(&input[from..to]);
-    if waits {
-        let written = flush(s, out);
-        return fill(written, input);
-    }
     let left = out.len() - s.at;
     if LINE <= left {
         return s;
     }
     flush(s, out)
+}
+
+// Sees to it that the input shows a record, where it has one, and that the output has room for a line.
+fn ready(s: State, input: &mut [u8], out: &[u8]) -> State
+    requires { ⌜ Places s (now input) (now out) ⌝ }
+    ensures { λ r. ⌜ Ready s (now (input .entry)) (now (out .entry)) r (now (input .exit)) ⌝ }
+{
+    let from = s.from;
+    let to = s.to;
+    let more = s.more;
+    if !more {
+        return make_room(s, out);
+    }
+    if records::window::shows_record(&input[from..to]) {
+        return make_room(s, out);
+    }
+    let written = flush(s, out);
+    fill(written, input)
 }
 
 // Answers the record that the input shows.
@@ -108,8 +119,8 @@ fn answer(
     second: &mut [u8],
     work: &mut [u8],
 ) -> State
-    requires { ⌜ Buffers (s .from) (s .to) (s .done) (s .at) (now input) (now out) (now first) (now second) (now work) ⌝ }
-    ensures { λ r. ⌜ (Places (r .from) (r .to) (r .at) (now (input .entry)) (now (out .exit))) × GoesOn (s .done) (r .done) (r .ended) ⌝ }
+    requires { ⌜ AnswerRoom s (now input) (now out) (now first) (now second) (now work) ⌝ }
+    ensures { λ r. ⌜ Answered s (now (input .entry)) (now (out .entry)) r (now (out .exit)) ⌝ }
 {
     let from = s.from;
     let to = s.to;
@@ -117,7 +128,7 @@ fn answer(
     State {
         from: from + r.consumed,
         to: to,
-        open: s.open,
+        more: s.more,
         done: r.done,
         at: r.at,
         ended: r.ended,
@@ -132,7 +143,7 @@ fn run(input: &mut [u8], out: &mut [u8], first: &mut [u8], second: &mut [u8], wo
     let mut s = State {
         from: 0,
         to: 0,
-        open: true,
+        more: true,
         done: 0,
         at: 0,
         ended: false,

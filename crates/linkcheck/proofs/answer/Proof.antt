@@ -3,7 +3,8 @@
 use native.Mathlib.Omega.{arith}
 use borrow.Author.Needs.{needs}
 use denote.Ref.{now}
-use Rattle.linkcheck.proofs.Turns.{stepped}
+use Rattle.linkcheck.specs.Turns.{windowOf}
+use Rattle.linkcheck.proofs.Laws.{reads-within, answered}
 use Rattle.linkcheck.proofs.answer.Statement.{statement}
 use Rattle.linkcheck.proofs.answer.Tie as tie
 
@@ -20,8 +21,9 @@ step-requires : tie.Need-step-requires
 step-requires c κs = search needs
 
 add-t11 : tie.Need-add-t11
+unfolding windowOf
 add-t11 c =
-    omega (arith, stepped (c .before .before .before .before .before .before .before .before .before .before .before .before .before .before .before .before .before .before .before .before .args .s .from) (c .before .before .before .before .before .before .before .before .before .before .before .before .before .before .before .before .before .before .before .before .args .s .to) (c .before .before .before .before .before .before .before .before .before .before .before .before .before .before .before .before .before .before .before .before .args .s .done) (c .before .before .before .before .before .before .before .before .before .before .before .before .before .before .before .before .before .before .before .before .args .s .at) (now (c .before .before .before .before .before .before .before .before .before .before .before .before .before .before .before .before .before .before .before .before .args .input)) (now (c .before .before .before .before .before .before .before .before .before .before .before .before .before .before .before .before .before .before .before .before .args .out)) (c .before .before .before .before .before .before .before .before .before .step .last .1 .1 .1 .0) (c .before .before .before .before .before .before .before .before .before .before .before .before .before .before .before .before .before .before .before .before .pre .in-order) (c .before .before .before .before .before .before .before .before .before .before .before .before .before .before .before .before .before .before .before .before .pre .in-input) (c .before .before .before .before .before .before .before .before .before .before .before .before .before .before .before .before .before .before .before .before .pre .step-room .line-fits) (c .before .before .before .before .before .before .before .before .before .step .kept .1 .1 .1 .0) (c .before .before .before .before .before .before .before .before .before .step .ensures) .0 .in-order)
+    omega (arith, c .before .before .before .before .before .before .before .before .before .step .ensures .consumed-is, reads-within (c .before .before .before .before .before .before .before .before .before .before .before .before .before .before .before .before .before .before .before .before .args .s) (now (c .before .before .before .before .before .before .before .before .before .before .before .before .before .before .before .before .before .before .before .before .args .input)) (c .before .before .before .before .before .before .before .before .before .before .before .before .before .before .before .before .before .before .before .before .pre .in-order), c .before .before .before .before .before .before .before .before .before .before .before .before .before .before .before .before .before .before .before .before .pre .in-input)
 
 same-length : tie.Need-same-length
 same-length c = search needs
@@ -37,7 +39,7 @@ same-length-4 c = search needs
 
 returns : tie.Need-returns
 returns c =
-    stepped (c .before .before .before .before .before .before .before .before .before .before .before .before .before .before .before .before .before .before .before .before .args .s .from) (c .before .before .before .before .before .before .before .before .before .before .before .before .before .before .before .before .before .before .before .before .args .s .to) (c .before .before .before .before .before .before .before .before .before .before .before .before .before .before .before .before .before .before .before .before .args .s .done) (c .before .before .before .before .before .before .before .before .before .before .before .before .before .before .before .before .before .before .before .before .args .s .at) (now (c .before .before .before .before .before .before .before .before .before .before .before .before .before .before .before .before .before .before .before .before .args .input)) (now (c .before .before .before .before .before .before .before .before .before .before .before .before .before .before .before .before .before .before .before .before .args .out)) (c .before .before .before .before .before .before .before .before .before .step .last .1 .1 .1 .0) (c .before .before .before .before .before .before .before .before .before .before .before .before .before .before .before .before .before .before .before .before .pre .in-order) (c .before .before .before .before .before .before .before .before .before .before .before .before .before .before .before .before .before .before .before .before .pre .in-input) (c .before .before .before .before .before .before .before .before .before .before .before .before .before .before .before .before .before .before .before .before .pre .step-room .line-fits) (c .before .before .before .before .before .before .before .before .before .step .kept .1 .1 .1 .0) (c .before .before .before .before .before .before .before .before .before .step .ensures)
+    answered (c .before .before .before .before .before .before .before .before .before .before .before .before .before .before .before .before .before .before .before .before .args .s) (now (c .before .before .before .before .before .before .before .before .before .before .before .before .before .before .before .before .before .before .before .before .args .input)) (now (c .before .before .before .before .before .before .before .before .before .before .before .before .before .before .before .before .before .before .before .before .args .out)) (c .before .before .before .before .before .before .before .before .before .step .last .1 .1 .1 .0) (c .before .before .before .before .before .before .before .before .before .step .ensures)
 
 pub answer-spec : {M : Type 1} → statement M
 answer-spec =

@@ -1,21 +1,24 @@
--- `linkcheck::fill` meets its contract: what is left to read falls with every read.
+-- `linkcheck::fill` meets its contract: what is left to read falls with every read, and what was left stays at the front.
 -- Assumes nothing.
-use mathlib.Core.Path.{_≡_, sym}
 use mathlib.Core.Bool.{cond}
+use mathlib.Core.Path.{_≡_, refl, sym, _∙_}
 use Prim.Native.Nat.{_+_, _-_, _≤_}
 use native.Mathlib.Omega.{arith}
 use borrow.Rule.Slice.PartMut.{same-len-mid}
+use denote.Ref.{now}
 use lib.Seq.{length-take-le}
-use lib.ListN.{length}
-use Rattle.linkcheck.proofs.Turns.{read-falls}
+use lib.ListN.{length, take}
+use Rattle.records.proofs.Stepping.{never-true}
+use Rattle.linkcheck.proofs.Laws.{read-falls, read-behind, filled}
 use Rattle.linkcheck.proofs.fill.Statement.{statement}
 use Rattle.linkcheck.proofs.fill.Tie as tie
 
 abbrev Inv-loop : tie.InvT-loop
-Inv-loop s input₀ from to end₀ open₀ input end «open» = (end ≤ length input) × (length input ≡ length input₀)
+Inv-loop s input₀ from to end₀ more₀ input end more =
+    (end ≤ length input) × (length input ≡ length input₀) × (to - from ≤ end) × (take (to - from) input ≡ take (to - from) input₀)
 
 abbrev μ-loop : tie.MeasureT-loop
-μ-loop s input₀ from to end₀ open₀ input end «open» = (length input - end) + cond «open» 1 0
+μ-loop s input₀ from to end₀ more₀ input end more = (length input - end) + cond more 1 0
 
 to-front-requires : tie.Need-to-front-requires Inv-loop μ-loop
 to-front-requires c κs = omega arith
@@ -24,7 +27,7 @@ sub-end : tie.Need-sub-end Inv-loop μ-loop
 sub-end c = omega arith
 
 loop-holds : tie.Need-loop-holds Inv-loop μ-loop
-loop-holds c = omega arith
+loop-holds c = (omega arith, refl, omega arith, refl)
 
 slice-reshare-prefix-shows-record : tie.Need-slice-reshare-prefix-shows-record Inv-loop μ-loop
 slice-reshare-prefix-shows-record c = omega arith
@@ -69,19 +72,24 @@ loop-less c =
     rw (long, c .before .before .before .before .before .before .before .before .before .before .loop-test .taken) (read-falls (length (h .input)) (h .end) (c .count .result) (omega arith))
 
 loop-again : tie.Need-loop-again Inv-loop μ-loop
-loop-again c = omega arith
+loop-again c =
+    let h = c .before .before .before .before .before .before .before .before .before .before .before .loop in
+    let s = c .before .before .before .before .before .before .before .before .before .before .before .before .before .before .before .before .before .args .s in
+    (omega arith, omega arith, omega (arith, h .inv .2), read-behind (s .to - s .from) (h .end) (h .input) (c .before .before .before .before .before .read .last .1 .0) (h .inv .2) (h .inv .0) ∙ h .inv .3)
 
 same-length : tie.Need-same-length Inv-loop μ-loop
 same-length c = omega arith
 
 returns : tie.Need-returns Inv-loop μ-loop
-returns c = omega arith
+returns c =
+    filled (c .before .before .before .before .before .before .before .args .s) (now (c .before .before .before .before .before .before .before .args .input)) (c .before .before .before .before .to-front .last .0) (c .before .loop .input) (c .before .loop .end) (c .before .loop .more) (c .before .loop .inv .0) (omega arith) (c .before .loop .inv .2) (c .before .loop .inv .3) (c .before .before .before .before .to-front .ensures) (λ e. never-true (sym e ∙ c .loop-test .left))
 
 same-length-2 : tie.Need-same-length-2 Inv-loop μ-loop
 same-length-2 c = omega arith
 
 returns-2 : tie.Need-returns-2 Inv-loop μ-loop
-returns-2 c = omega arith
+returns-2 c =
+    filled (c .before .before .before .before .before .before .before .before .before .before .args .s) (now (c .before .before .before .before .before .before .before .before .before .before .args .input)) (c .before .before .before .before .before .before .before .to-front .last .0) (c .before .before .before .before .loop .input) (c .before .before .before .before .loop .end) (c .before .before .before .before .loop .more) (c .before .before .before .before .loop .inv .0) (omega arith) (c .before .before .before .before .loop .inv .2) (c .before .before .before .before .loop .inv .3) (c .before .before .before .before .before .before .before .to-front .ensures) (λ e. sym (c .before .shows-record .ensures) ∙ c .if1 .taken)
 
 pub fill-spec : {M : Type 1} → statement M
 fill-spec =

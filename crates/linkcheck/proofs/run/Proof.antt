@@ -8,15 +8,15 @@ use borrow.Author.Tests.{not-true}
 use borrow.Author.Needs.{needs}
 use lib.Seq.{length-take-le}
 use lib.ListN.{length}
-use Rattle.linkcheck.specs.Places.{Places}
-use Rattle.linkcheck.proofs.Turns.{written-within, turn-falls}
+use Rattle.linkcheck.specs.Turns.{Places}
+use Rattle.linkcheck.proofs.Laws.{written-within, answered-places, turn-falls, turn-few}
 use Rattle.linkcheck.proofs.run.Statement.{statement}
 use Rattle.linkcheck.proofs.run.Tie as tie
 
 abbrev Inv-loop : tie.InvT-loop
 Inv-loop input₀ out₀ first₀ second₀ work₀ s₀ ended₀ input out first second work s ended =
     (length input ≡ length input₀) × (length out ≡ length out₀) × (length first ≡ length first₀) × (length second ≡ length second₀)
-    × (length work ≡ length work₀) × Places (s .from) (s .to) (s .at) input out × (ended ≡ false → s .done < 65535)
+    × (length work ≡ length work₀) × Places s input out × (ended ≡ false → s .done < 65535)
 
 abbrev μ-loop : tie.MeasureT-loop
 μ-loop input₀ out₀ first₀ second₀ work₀ s₀ ended₀ input out first second work s ended = cond ended 0 (65535 - s .done)
@@ -48,15 +48,32 @@ returns c = tt
 
 answer-requires : tie.Need-answer-requires Inv-loop μ-loop
 answer-requires c κs =
-    record { in-order = c .before .before .before .before .before .before .before .before .ready .ensures .0; in-input = omega (arith, c .before .before .before .before .before .before .before .before .ready .ensures .1, c .before .before .before .before .before .before .before .before .ready .kept .1 .0); step-room = record { few = omega (arith, c .before .before .before .before .before .before .before .before .ready .ensures .2, c .before .before .before .before .before .before .before .before .before .before .before .before .loop .inv .6 (not-true _ (c .before .before .before .before .before .before .before .before .before .before .before .loop-test .taken))); line-fits = c .before .before .before .before .before .before .before .before .ready .ensures .3; room = record { first-long = omega (arith, c .before .before .before .before .before .before .before .before .before .before .before .before .before .before .before .before .before .before .pre .2, c .before .before .before .before .before .before .before .before .before .before .before .before .loop .inv .2); second-long = omega (arith, c .before .before .before .before .before .before .before .before .before .before .before .before .before .before .before .before .before .before .pre .3, c .before .before .before .before .before .before .before .before .before .before .before .before .loop .inv .3); work-long = omega (arith, c .before .before .before .before .before .before .before .before .before .before .before .before .before .before .before .before .before .before .pre .4, c .before .before .before .before .before .before .before .before .before .before .before .before .loop .inv .4) } } }
+    let r = c .before .before .before .before .before .before .before .before .ready in
+    let h = c .before .before .before .before .before .before .before .before .before .before .before .before .loop in
+    record { in-order = r .ensures .in-order; in-input = omega (arith, r .ensures .in-input, r .kept .1 .0); step-room = record { few = omega (arith, r .ensures .done-is, h .inv .6 (not-true (h .ended) (c .before .before .before .before .before .before .before .before .before .before .before .loop-test .taken))); line-fits = r .ensures .line-fits; room = record { first-long = omega (arith, c .before .before .before .before .before .before .before .before .before .before .before .before .before .before .before .before .before .before .pre .2, h .inv .2); second-long = omega (arith, c .before .before .before .before .before .before .before .before .before .before .before .before .before .before .before .before .before .before .pre .3, h .inv .3); work-long = omega (arith, c .before .before .before .before .before .before .before .before .before .before .before .before .before .before .before .before .before .before .pre .4, h .inv .4) } } }
 
 loop-less : tie.Need-loop-less Inv-loop μ-loop
 loop-less c =
-    rw (not-true (c .before .before .before .before .before .before .before .before .before .before .before .before .before .before .before .before .before .before .before .before .before .loop .ended) (c .before .before .before .before .before .before .before .before .before .before .before .before .before .before .before .before .before .before .before .before .loop-test .taken)) (turn-falls (c .before .before .before .before .before .before .before .before .answer .result .ended) (c .before .before .before .before .before .before .before .before .before .before .before .before .before .before .before .before .before .before .before .before .before .loop .s .done) (c .before .before .before .before .before .before .before .before .answer .result .done) (rw (c .before .before .before .before .before .before .before .before .before .before .before .before .before .before .before .before .before .ready .ensures .2) at (c .before .before .before .before .before .before .before .before .answer .ensures .1)) (c .before .before .before .before .before .before .before .before .before .before .before .before .before .before .before .before .before .before .before .before .before .loop .inv .6 (not-true (c .before .before .before .before .before .before .before .before .before .before .before .before .before .before .before .before .before .before .before .before .before .loop .ended) (c .before .before .before .before .before .before .before .before .before .before .before .before .before .before .before .before .before .before .before .before .loop-test .taken))))
+    let r = c .before .before .before .before .before .before .before .before .before .before .before .before .before .before .before .before .before .ready in
+    let h = c .before .before .before .before .before .before .before .before .before .before .before .before .before .before .before .before .before .before .before .before .before .loop in
+    let t = c .before .before .before .before .before .before .before .before .answer in
+    rw (not-true (h .ended) (c .before .before .before .before .before .before .before .before .before .before .before .before .before .before .before .before .before .before .before .before .loop-test .taken))
+    (rw (r .ensures .done-is) at
+    (turn-falls _ (r .result .done) (t .result .done) (t .result .ended) (t .ensures .done-is) (t .ensures .ends) (omega (arith, r .ensures .done-is, h .inv .6 (not-true (h .ended) (c .before .before .before .before .before .before .before .before .before .before .before .before .before .before .before .before .before .before .before .before .loop-test .taken))))))
 
 loop-again : tie.Need-loop-again Inv-loop μ-loop
 loop-again c =
-    (c .before .before .before .before .before .before .before .before .before .before .before .before .before .before .before .before .before .ready .kept .1 .0 ∙ c .before .before .before .before .before .before .before .before .before .before .before .before .before .before .before .before .before .before .before .before .before .loop .inv .0, c .before .before .before .before .before .before .before .before .answer .kept .1 .1 .0 ∙ c .before .before .before .before .before .before .before .before .before .before .before .before .before .before .before .before .before .before .before .before .before .loop .inv .1, c .before .before .before .before .before .before .before .before .answer .kept .1 .1 .1 .0 ∙ c .before .before .before .before .before .before .before .before .before .before .before .before .before .before .before .before .before .before .before .before .before .loop .inv .2, c .before .before .before .before .before .before .before .before .answer .kept .1 .1 .1 .1 .0 ∙ c .before .before .before .before .before .before .before .before .before .before .before .before .before .before .before .before .before .before .before .before .before .loop .inv .3, c .before .before .before .before .before .before .before .before .answer .kept .1 .1 .1 .1 .1 .0 ∙ c .before .before .before .before .before .before .before .before .before .before .before .before .before .before .before .before .before .before .before .before .before .loop .inv .4, c .before .before .before .before .before .before .before .before .answer .ensures .0, λ e. omega (arith, c .before .before .before .before .before .before .before .before .answer .ensures .1 .one-more e, c .before .before .before .before .before .before .before .before .answer .ensures .1 .not-last e))
+    let r = c .before .before .before .before .before .before .before .before .before .before .before .before .before .before .before .before .before .ready in
+    let h = c .before .before .before .before .before .before .before .before .before .before .before .before .before .before .before .before .before .before .before .before .before .loop in
+    let t = c .before .before .before .before .before .before .before .before .answer in (
+      r .kept .1 .0 ∙ h .inv .0,
+      t .kept .1 .1 .0 ∙ h .inv .1,
+      t .kept .1 .1 .1 .0 ∙ h .inv .2,
+      t .kept .1 .1 .1 .1 .0 ∙ h .inv .3,
+      t .kept .1 .1 .1 .1 .1 .0 ∙ h .inv .4,
+      answered-places (r .result) (t .result) (r .last .1 .0) (h .out) (t .last .1 .1 .0) (r .ensures .in-order) (omega (arith, r .ensures .in-input, r .kept .1 .0)) (omega (arith, r .ensures .line-fits)) (h .inv .5 .room) (t .kept .1 .1 .0) (t .ensures),
+      λ e. turn-few _ (r .result .done) (t .result .done) (t .result .ended) (t .ensures .done-is) (t .ensures .ends) e,
+    )
 
 flush-requires : tie.Need-flush-requires Inv-loop μ-loop
 flush-requires c κs = c .before .before .loop .inv .5 .in-output
