@@ -16,7 +16,7 @@ abbrev μ-loop : tie.MeasureT-loop
 μ-loop buffer₀ from to left i₀ buffer i = left - i
 
 sub-left : tie.Need-sub-left Inv-loop μ-loop
-sub-left c = c .pre .0
+sub-left c = omega (arith, c .pre .0)
 
 loop-holds : tie.Need-loop-holds Inv-loop μ-loop
 loop-holds c = (omega arith, refl, refl, refl)
