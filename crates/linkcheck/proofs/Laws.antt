@@ -1,4 +1,5 @@
--- Laws of the turns of `linkcheck`: reading and answering come to an end, and every place stays within its buffer. Assumes nothing.
+-- Laws of the turns of `linkcheck`: what is left of the input is kept, reading and answering come to an end, and every place stays
+-- within its buffer. Assumes nothing.
 use mathlib.Core.Path.{_≡_, refl, sym, ap, _∙_}
 use mathlib.Core.Bool.{Bool, true, false, cond, not}
 use mathlib.Core.List.{List, _++_}
@@ -14,11 +15,11 @@ use Rattle.lines.specs.Line.{Written}
 use Rattle.records.specs.declared.step.Stepped.{Stepped}
 use Rattle.records.specs.Header.{showsRecord}
 use Rattle.records.specs.Record.{Step, step, doneAfter, consumed, readingEnds}
-use Rattle.records.specs.Steps.{StepExit}
+use Rattle.records.specs.Steps.{lineRoom, StepExit}
 use Rattle.records.proofs.Windows.{consumed-within}
 use Rattle.records.proofs.Transcripts.{goes-on-less}
 use Rattle.linkcheck.specs.declared.State.{State}
-use Rattle.linkcheck.specs.Turns.{windowOf, Places, Flushed, Filled, Ready, Answered}
+use Rattle.linkcheck.specs.Turns.{windowOf, Places, Flushed, Kept, Filled, Ready, Answered}
 
 -- What is left to read, and one more while the input may go on, falls with every read.
 falls : (none : Bool) (len end more : ℕ) → eqb more 0 ≡ none → end + more ≤ len → (len - (end + more)) + cond (not none) 1 0 < (len - end) + 1
@@ -49,12 +50,15 @@ pub filled : (s : State) (input moved input' : List ℕ) (end : ℕ) (more : Boo
     → Filled s input (record { from = 0; to = end; more = more; done = s .done; at = s .at; ended = s .ended }) input'
 unfolding windowOf
 filled s input moved input' end more inside long left same front shown = record {
-  in-order = omega arith;
-  in-input = omega arith;
-  done-is = refl;
+  window = record {
+    in-order = omega arith;
+    in-input = omega arith;
+    done-is = refl;
+    front = ap (take (s .to - s .from)) (front-window input' end) ∙ take-take (s .to - s .from) end input' left ∙ same ∙ front;
+    shown = λ e. rw (front-window input' end) (shown e);
+  };
   at-is = refl;
-  kept = ap (take (s .to - s .from)) (front-window input' end) ∙ take-take (s .to - s .from) end input' left ∙ same ∙ front;
-  shown = λ e. rw (front-window input' end) (shown e);
+  ended-is = refl;
 }
 
 -- A read behind a place changes nothing before it.
@@ -78,29 +82,35 @@ all-kept s input = take-take (s .to - s .from) (s .to - s .from) (drop (s .from)
 
 -- Nothing was read: the input has ended, or a record is shown already.
 pub ready-before : (s r : State) (input out : List ℕ) → Places s input out → r .from ≡ s .from → r .to ≡ s .to → r .more ≡ s .more
-    → r .done ≡ s .done → r .at + 18518 ≤ length out → (s .more ≡ true → showsRecord (windowOf s input) ≡ true) → Ready s input out r input
+    → r .done ≡ s .done → r .at + lineRoom ≤ length out → (s .more ≡ true → showsRecord (windowOf s input) ≡ true) → Ready s input out r input
 ready-before s r input out p f t o d fits shown =
     let same = same-window s r input f t in
     record {
-      in-order = omega (arith, f, t, p .in-order);
-      in-input = omega (arith, t, p .in-input);
-      done-is = d;
+      window = record {
+        in-order = omega (arith, f, t, p .in-order);
+        in-input = omega (arith, t, p .in-input);
+        done-is = d;
+        front = ap (take (s .to - s .from)) same ∙ all-kept s input;
+        shown = λ e. rw same (shown (sym o ∙ e));
+      };
       line-fits = fits;
-      kept = ap (take (s .to - s .from)) same ∙ all-kept s input;
-      shown = λ e. rw same (shown (sym o ∙ e));
     }
 
 -- The output was written, and more was read.
-pub ready-filled : (s w r : State) (input out input' : List ℕ) → 18518 ≤ length out → Flushed s w → Filled w input r input'
+pub ready-filled : (s w r : State) (input out input' : List ℕ) → lineRoom ≤ length out → Flushed s w → Filled w input r input'
     → Ready s input out r input'
-ready-filled s w r input out input' room fl fi = record {
-  in-order = fi .in-order;
-  in-input = fi .in-input;
-  done-is = fi .done-is ∙ fl .done-is;
-  line-fits = omega (arith, fi .at-is, fl .at-is, room);
-  kept = rw (fl .from-is, fl .to-is) at (fi .kept ∙ same-window s w input (fl .from-is) (fl .to-is));
-  shown = fi .shown;
-}
+ready-filled s w r input out input' room fl fi =
+    let k = fi .window in
+    record {
+      window = record {
+        in-order = k .in-order;
+        in-input = k .in-input;
+        done-is = k .done-is ∙ fl .done-is;
+        front = rw (fl .from-is, fl .to-is) at (k .front ∙ same-window s w input (fl .from-is) (fl .to-is));
+        shown = k .shown;
+      };
+      line-fits = omega (arith, fi .at-is, fl .at-is, room);
+    }
 
 -- ---- answering
 
@@ -124,7 +134,7 @@ reads-within s input order =
     omega (arith, order, consumed-within (take (s .to - s .from) (drop (s .from) input)), length-take (s .to - s .from) (drop (s .from) input))
 
 -- So every place is within its buffer after it.
-pub answered-places : (s r : State) (input out out' : List ℕ) → s .from ≤ s .to → s .to ≤ length input → s .at ≤ length out → 18518 ≤ length out
+pub answered-places : (s r : State) (input out out' : List ℕ) → s .from ≤ s .to → s .to ≤ length input → s .at ≤ length out → lineRoom ≤ length out
     → length out' ≡ length out → Answered s input out r out' → Places r input out'
 answered-places s r input out out' order inside at room kept a = record {
   in-order = omega (arith, a .from-is, a .to-is, reads-within s input order);

@@ -8,7 +8,7 @@ use lib.ListN.{length, take, drop}
 use Rattle.lines.specs.Line.{Written}
 use Rattle.records.specs.Header.{showsRecord}
 use Rattle.records.specs.Record.{step, stepLine, doneAfter, consumed, readingEnds}
-use Rattle.records.specs.Steps.{StepRoom}
+use Rattle.records.specs.Steps.{lineRoom, StepRoom}
 use Rattle.linkcheck.specs.declared.State.{State}
 
 -- The window: what was read of the input and is left.
@@ -20,7 +20,7 @@ pub record Places (s : State) (input out : List ℕ) : Type 0 where
   pub in-order : s .from ≤ s .to
   pub in-input : s .to ≤ length input
   pub in-output : s .at ≤ length out
-  pub room : 18518 ≤ length out
+  pub room : lineRoom ≤ length out
 
 -- What the output had has been written, and the run ends where that failed.
 pub record Flushed (s r : State) : Type 0 where
@@ -30,23 +30,24 @@ pub record Flushed (s r : State) : Type 0 where
   pub done-is : r .done ≡ s .done
   pub at-is : r .at ≡ 0
 
--- More was read: the window begins with what it was, and shows a record unless the input has ended.
-pub record Filled (s : State) (input : List ℕ) (r : State) (input' : List ℕ) : Type 0 where
+-- The window begins with what it was, and shows a record unless the input has ended.
+pub record Kept (s : State) (input : List ℕ) (r : State) (input' : List ℕ) : Type 0 where
   pub in-order : r .from ≤ r .to
   pub in-input : r .to ≤ length input
   pub done-is : r .done ≡ s .done
-  pub at-is : r .at ≡ s .at
-  pub kept : take (s .to - s .from) (windowOf r input') ≡ windowOf s input
+  pub front : take (s .to - s .from) (windowOf r input') ≡ windowOf s input
   pub shown : r .more ≡ true → showsRecord (windowOf r input') ≡ true
 
--- The same, and the output has room for a line.
+-- More was read behind it; nothing else changed.
+pub record Filled (s : State) (input : List ℕ) (r : State) (input' : List ℕ) : Type 0 where
+  pub window : Kept s input r input'
+  pub at-is : r .at ≡ s .at
+  pub ended-is : r .ended ≡ s .ended
+
+-- And the output has room for a line.
 pub record Ready (s : State) (input out : List ℕ) (r : State) (input' : List ℕ) : Type 0 where
-  pub in-order : r .from ≤ r .to
-  pub in-input : r .to ≤ length input
-  pub done-is : r .done ≡ s .done
-  pub line-fits : r .at + 18518 ≤ length out
-  pub kept : take (s .to - s .from) (windowOf r input') ≡ windowOf s input
-  pub shown : r .more ≡ true → showsRecord (windowOf r input') ≡ true
+  pub window : Kept s input r input'
+  pub line-fits : r .at + lineRoom ≤ length out
 
 -- A record may be answered.
 pub record AnswerRoom (s : State) (input out first second work : List ℕ) : Type 0 where

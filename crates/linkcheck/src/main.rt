@@ -7,9 +7,10 @@ use libc::STDOUT_FILENO;
 ghost use mathlib.Core.Path.{_≡_};
 ghost use Prim.Native.Nat.{_+_, _≤_};
 ghost use lib.ListN.{length};
+ghost use Rattle.records.specs.Steps.{lineRoom};
 ghost use Rattle.linkcheck.specs.Turns.{Places, Flushed, Filled, Ready, AnswerRoom, Answered};
 
-// The room that a line takes.
+// The room that the longest line takes, `lineRoom`.
 const LINE: usize = 18518;
 
 // Where the run stands.
@@ -82,8 +83,8 @@ fn fill(s: State, input: &mut [u8]) -> State
 
 // Sees to it that the output has room for a line.
 fn make_room(s: State, out: &[u8]) -> State
-    requires { ⌜ (s .at ≤ length (now out)) × (18518 ≤ length (now out)) ⌝ }
-    ensures { λ r. ⌜ (r .from ≡ s .from) × (r .to ≡ s .to) × (r .more ≡ s .more) × (r .done ≡ s .done) × (r .at + 18518 ≤ length (now (out .entry))) ⌝ }
+    requires { ⌜ (s .at ≤ length (now out)) × (lineRoom ≤ length (now out)) ⌝ }
+    ensures { λ r. ⌜ (r .from ≡ s .from) × (r .to ≡ s .to) × (r .more ≡ s .more) × (r .done ≡ s .done) × (r .at + lineRoom ≤ length (now (out .entry))) ⌝ }
 {
     let left = out.len() - s.at;
     if LINE <= left {

@@ -25,7 +25,7 @@ Proper {A} answer = number answer ≡ 0 → (v : A) × (answer ≡ answered v)
 pub proper-answered : {A : Type 0} (v : A) → Proper (answered v)
 proper-answered v e = (v, refl)
 
-pub proper-refused : {A : Type 0} (n : ℕ) → (n ≡ 0 → ⊥) → Proper {A = A} (refused n)
+proper-refused : {A : Type 0} (n : ℕ) → (n ≡ 0 → ⊥) → Proper {A = A} (refused n)
 unfolding number
 proper-refused n some e = absurd (some e)
 

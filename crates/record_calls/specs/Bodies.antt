@@ -45,7 +45,7 @@ decapsBody P body =
     refuseIf (differs (length body) (secretLength P + ciphertextLength P)) 2
     (decaps P true (take (secretLength P) body) (drop (secretLength P) body))
 
--- The call that a kind names.
+-- The call that a kind from 1 to 5 names; the header refuses every other.
 unfoldable pub kindBody : ℕ → Params → List ℕ → Answer (List ℕ)
 kindBody kind =
     cond (eqb kind 1) keygenBody

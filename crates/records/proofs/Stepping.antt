@@ -54,7 +54,7 @@ pub never-true : {A : Type 0} → true ≡ false → A
 never-true e = never (ap (λ (b : Bool). cond b 0 1) e)
 
 -- A header that is not whole gives the same whatever is left.
-pub step-any : (rest : List ℕ) (header : Header) → isWhole header ≡ false → stepBy [] header ≡ stepBy rest header
+step-any : (rest : List ℕ) (header : Header) → isWhole header ≡ false → stepBy [] header ≡ stepBy rest header
 unfolding isWhole stepBy
 step-any rest (Whole kind set body) e = never-true e
 step-any rest End e = refl

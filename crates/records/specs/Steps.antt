@@ -8,7 +8,7 @@ use Rattle.record_calls.specs.Outputs.{firstMost, secondMost, Room}
 use Rattle.records.specs.declared.step.Stepped.{Stepped}
 use Rattle.records.specs.Record.{Step, mostRecords, stepLine, doneAfter, consumed, readingEnds}
 
--- The room that the longest line takes.
+-- The room that the longest line takes: four fields of at most 20 digits with a space each, the output, a - and a line feed.
 abbrev pub lineRoom : ℕ
 lineRoom = 86 + 2 * (firstMost + secondMost)
 

@@ -50,7 +50,7 @@ answer-requires : tie.Need-answer-requires Inv-loop μ-loop
 answer-requires c κs =
     let r = c .before .before .before .before .before .before .before .before .ready in
     let h = c .before .before .before .before .before .before .before .before .before .before .before .before .loop in
-    record { in-order = r .ensures .in-order; in-input = omega (arith, r .ensures .in-input, r .kept .1 .0); step-room = record { few = omega (arith, r .ensures .done-is, h .inv .6 (not-true (h .ended) (c .before .before .before .before .before .before .before .before .before .before .before .loop-test .taken))); line-fits = r .ensures .line-fits; room = record { first-long = omega (arith, c .before .before .before .before .before .before .before .before .before .before .before .before .before .before .before .before .before .before .pre .2, h .inv .2); second-long = omega (arith, c .before .before .before .before .before .before .before .before .before .before .before .before .before .before .before .before .before .before .pre .3, h .inv .3); work-long = omega (arith, c .before .before .before .before .before .before .before .before .before .before .before .before .before .before .before .before .before .before .pre .4, h .inv .4) } } }
+    record { in-order = r .ensures .window .in-order; in-input = omega (arith, r .ensures .window .in-input, r .kept .1 .0); step-room = record { few = omega (arith, r .ensures .window .done-is, h .inv .6 (not-true (h .ended) (c .before .before .before .before .before .before .before .before .before .before .before .loop-test .taken))); line-fits = r .ensures .line-fits; room = record { first-long = omega (arith, c .before .before .before .before .before .before .before .before .before .before .before .before .before .before .before .before .before .before .pre .2, h .inv .2); second-long = omega (arith, c .before .before .before .before .before .before .before .before .before .before .before .before .before .before .before .before .before .before .pre .3, h .inv .3); work-long = omega (arith, c .before .before .before .before .before .before .before .before .before .before .before .before .before .before .before .before .before .before .pre .4, h .inv .4) } } }
 
 loop-less : tie.Need-loop-less Inv-loop μ-loop
 loop-less c =
@@ -58,8 +58,8 @@ loop-less c =
     let h = c .before .before .before .before .before .before .before .before .before .before .before .before .before .before .before .before .before .before .before .before .before .loop in
     let t = c .before .before .before .before .before .before .before .before .answer in
     rw (not-true (h .ended) (c .before .before .before .before .before .before .before .before .before .before .before .before .before .before .before .before .before .before .before .before .loop-test .taken))
-    (rw (r .ensures .done-is) at
-    (turn-falls _ (r .result .done) (t .result .done) (t .result .ended) (t .ensures .done-is) (t .ensures .ends) (omega (arith, r .ensures .done-is, h .inv .6 (not-true (h .ended) (c .before .before .before .before .before .before .before .before .before .before .before .before .before .before .before .before .before .before .before .before .loop-test .taken))))))
+    (rw (r .ensures .window .done-is) at
+    (turn-falls _ (r .result .done) (t .result .done) (t .result .ended) (t .ensures .done-is) (t .ensures .ends) (omega (arith, r .ensures .window .done-is, h .inv .6 (not-true (h .ended) (c .before .before .before .before .before .before .before .before .before .before .before .before .before .before .before .before .before .before .before .before .loop-test .taken))))))
 
 loop-again : tie.Need-loop-again Inv-loop μ-loop
 loop-again c =
@@ -71,7 +71,7 @@ loop-again c =
       t .kept .1 .1 .1 .0 ∙ h .inv .2,
       t .kept .1 .1 .1 .1 .0 ∙ h .inv .3,
       t .kept .1 .1 .1 .1 .1 .0 ∙ h .inv .4,
-      answered-places (r .result) (t .result) (r .last .1 .0) (h .out) (t .last .1 .1 .0) (r .ensures .in-order) (omega (arith, r .ensures .in-input, r .kept .1 .0)) (omega (arith, r .ensures .line-fits)) (h .inv .5 .room) (t .kept .1 .1 .0) (t .ensures),
+      answered-places (r .result) (t .result) (r .last .1 .0) (h .out) (t .last .1 .1 .0) (r .ensures .window .in-order) (omega (arith, r .ensures .window .in-input, r .kept .1 .0)) (omega (arith, r .ensures .line-fits)) (h .inv .5 .room) (t .kept .1 .1 .0) (t .ensures),
       λ e. turn-few _ (r .result .done) (t .result .done) (t .result .ended) (t .ensures .done-is) (t .ensures .ends) e,
     )
 
