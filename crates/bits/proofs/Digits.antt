@@ -3,7 +3,9 @@
 use mathlib.Core.Path.{_≡_, refl, sym, ap, ap₂, _∙_}
 use mathlib.Core.List.{List, [], _∷_, _++_, map-append}
 use Prim.Native.Nat.{ℕ, zero, suc, _+_, _-_, _*_, _/_, _%_, _^_, _≤_, _<_, zero-le, suc-le-suc}
-use native.Mathlib.Nat.{not-suc-le-zero, le-of-suc-le-suc, mul-zero, mul-suc, div-div-eq-div-mul, mod-lt, mod-eq-of-lt, lt-of-lt-of-le, le-refl, div-one, mod-one, pow-zero, zero-div, zero-mod, mul-le-mul-left, zero-add, suc-add, mul-add, add-zero, pow-suc, mul-mod-left, mul-div-cancel}
+use native.Mathlib.Nat.{not-suc-le-zero, le-of-suc-le-suc, mul-zero, mul-suc, div-div-eq-div-mul, mod-lt, mod-eq-of-lt, lt-of-lt-of-le}
+use native.Mathlib.Nat.{le-refl, div-one, mod-one, pow-zero, zero-div, zero-mod, mul-le-mul-left, zero-add, suc-add, mul-add, add-zero}
+use native.Mathlib.Nat.{pow-suc, mul-mod-left, mul-div-cancel}
 use native.Mathlib.Omega.{arith}
 use lib.Count.{trailingZeros}
 use lib.ListN.{length, getD, take, drop, length-append, length-map}

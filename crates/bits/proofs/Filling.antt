@@ -4,7 +4,7 @@ use mathlib.Core.List.{List, [], _∷_, _++_, map, append-assoc, append-nil}
 use Prim.Native.Nat.{ℕ, zero, suc, _+_, _-_, _≤_, _<_, zero-le, suc-le-suc}
 use native.Mathlib.Numerals.{add-one}
 use native.Mathlib.Omega.{arith}
-use lib.ListN.{length, getD, drop, set, replicate, drop-of-length-le}
+use lib.ListN.{length, getD, drop, set, replicate, length-set, drop-of-length-le}
 use lib.Seq.{drop-cons, drop-drop, take-at, drop-at, getD-append-add, getD-drop, set-at}
 use Rattle.keccak.specs.Lists.{tabulate}
 use Rattle.keccak.proofs.Entries.{length-tabulate, tabulate-add}
@@ -90,3 +90,30 @@ map-tabulate {B = B} f (suc n) g = ap (λ (l : List B). f (g 0) ∷ l) (map-tabu
 -- A turn more leaves fewer.
 pub turn-less : {i n : ℕ} → i < n → n - (i + 1) < n - i
 turn-less h = omega arith
+
+-- What a loop carries that fills a list xs from its front with f 0, f 1 and so on: ys is the list after i turns.
+pub record Filling {A : Type 0} (f : ℕ → A) (xs : List A) (i : ℕ) (ys : List A) : Type 0 where
+  pub within : i ≤ length xs
+  pub long : length ys ≡ length xs
+  pub are : ys ≡ filled i f xs
+
+module _ {A : Type 0} {f : ℕ → A} {xs : List A} where
+  pub filling-begun : Filling f xs 0 xs
+  filling-begun = record { within = zero-le; long = refl; are = filled-none f xs }
+
+  module _ {i : ℕ} {ys : List A} (d : A) (h : Filling f xs i ys) where
+    -- One turn more.
+    pub filling-more : {v : A} → i < length xs → v ≡ f i → Filling f xs (i + 1) (set ys i v)
+    filling-more {v} in-it is = record {
+      within = omega arith;
+      long = length-set ys i v ∙ h .long;
+      are = filled-more i f xs d in-it (h .are) is;
+    }
+
+    -- The entries that are not yet filled.
+    pub filling-at : {j : ℕ} → i ≤ j → getD ys j d ≡ getD xs j d
+    filling-at {j} past = filled-at i j f xs d past (h .are)
+
+  -- After the last turn.
+  pub filling-all : {i n : ℕ} {ys : List A} → Filling f xs i ys → length xs ≡ n → n ≤ i → ys ≡ tabulate n f
+  filling-all {i} {n} h long last = filled-all i n f xs long (omega (arith, h .within)) last (h .are)

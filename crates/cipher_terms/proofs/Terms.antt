@@ -51,7 +51,8 @@ first-is P coins high w e =
     cong-sub
     (cong-trans (added-cong n a (raised 1 b) x la h)
     (cong-trans (cong-add (cong-refl (ofNats a x)) (raised-cong n 1 b x lb h))
-    (cong-of-eq (ap₂ (λ (i j : ℕ). pos (i + 2 * j)) (sym (coefficient-first 1 n n coins x h)) (sym (coefficient-first w n n high x h) ∙ ap (λ (m : ℕ). coefficient m n high 0 x) e)))))
+    (cong-of-eq (ap₂ (λ (i j : ℕ). pos (i + 2 * j)) (sym (coefficient-first 1 n n coins x h))
+    (sym (coefficient-first w n n high x h) ∙ ap (λ (m : ℕ). coefficient m n high 0 x) e)))))
     (cong-refl (pos (P .p))))
 
 -- The first coefficient with c added.
@@ -87,7 +88,8 @@ flat-at w n bytes i x = coefficient-on w n bytes 0 i x ∙ ap (λ (k : ℕ). coe
 
 -- P: 2^t times the stored polynomials, plus w, and g at the constant of the first.
 pub decompress-is : (P : Params) → WellFormed P → (pk low : List ℕ) (c : ℕ) → c ≡ half P
-    → withConstant c (added (raised (P .t) (unpack (P .k - P .t) (P .l * P .n) pk)) (centredWords (2 ^ (P .t - 1)) (unpack (P .t) (P .l * P .n) low)))
+    → withConstant c
+    (added (raised (P .t) (unpack (P .k - P .t) (P .l * P .n) pk)) (centredWords (2 ^ (P .t - 1)) (unpack (P .t) (P .l * P .n) low)))
     ≡ vector (P .l) (P .n) (decompressedBy P pk (lowIn P low))
 unfolding stored
 decompress-is P W pk low c e =
@@ -101,10 +103,12 @@ decompress-is P W pk low c e =
     let lb : length b ≡ N = length-unpack (P .t) N low in
     let lr : length (raised (P .t) a) ≡ N = length-residues 65536 (length a) (λ k. pos (2 ^ P .t * getD a k 0)) ∙ la in
     let xs : List ℕ = added (raised (P .t) a) (centredWords m b) in
-    let lx : length xs ≡ N = length-residues 65536 (length (raised (P .t) a)) (plus (ofNats (raised (P .t) a)) (ofNats (centredWords m b))) ∙ lr in
+    let lx : length xs ≡ N = length-residues 65536 (length (raised (P .t) a)) (plus (ofNats (raised (P .t) a)) (ofNats (centredWords m b)))
+    ∙ lr in
     let ys : List ℕ = withConstant c xs in
     let ly : length ys ≡ N = length-set xs 0 _ ∙ lx in
-    let below : Below 65536 ys = constant-below c xs (residues-below (suc-le-suc zero-le) (length (raised (P .t) a)) (plus (ofNats (raised (P .t) a)) (ofNats (centredWords m b)))) in
+    let below : Below 65536 ys = constant-below c xs
+    (residues-below (suc-le-suc zero-le) (length (raised (P .t) a)) (plus (ofNats (raised (P .t) a)) (ofNats (centredWords m b)))) in
     let g : ℕ → ℤ = λ y. (pos (2 ^ P .t * coefficient d n pk 0 y) +ℤ centred m (coefficient (P .t) n low 0 y)) +ℤ pos (half P) *ℤ unit y in
     sym (residues-of-list 65536 ys below) ∙ ap (λ (k : ℕ). residues 65536 k (ofNats ys)) ly
     ∙ residues-cong (suc-le-suc zero-le) N (ofNats ys) g (λ y h.
@@ -137,4 +141,5 @@ factor-column P pk A w j h =
 pub factor-last : (P : Params) (pk : List ℕ) (A : ℕ → ℕ → Poly) (w : ℕ → Poly) (j : ℕ) → P .l ≤ j
     → vector (P .l) (P .n) (decompressedBy P pk w) ≡ vector (P .l) (P .n) (factorBy P pk A w j)
 factor-last P pk A w j h =
-    ap (vector (P .l) (P .n)) (passed (ltb j (P .l)) (transposed A j) (decompressedBy P pk w) (λ t. not-suc-le-self j (le-trans (ltb→lt j (P .l) t) h)))
+    ap (vector (P .l) (P .n))
+    (passed (ltb j (P .l)) (transposed A j) (decompressedBy P pk w) (λ t. not-suc-le-self j (le-trans (ltb→lt j (P .l) t) h)))

@@ -2,7 +2,8 @@
 use mathlib.Core.Path.{_≡_, refl, sym, ap, ap₂, _∙_}
 use mathlib.Core.List.{List, _++_, map}
 use Prim.Native.Nat.{ℕ, zero, suc, _+_, _-_, _*_, _/_, _%_, _^_, _≤_, _<_, suc-le-suc, zero-le}
-use native.Mathlib.Nat.{mod-add-div, add-mul-div-left, add-mul-mod-self-left, mod-mod, mul-assoc, mul-suc, mul-le-mul-left, mul-le-mul, mul-le-mul-right, one-mul, le-trans, le-add-right, pow-suc, lt-of-lt-of-le}
+use native.Mathlib.Nat.{mod-add-div, add-mul-div-left, add-mul-mod-self-left, mod-mod, mul-assoc, mul-suc, mul-le-mul-left, mul-le-mul}
+use native.Mathlib.Nat.{mul-le-mul-right, one-mul, le-trans, le-add-right, pow-suc, lt-of-lt-of-le}
 use native.Mathlib.Omega.{arith}
 use lib.IntN.{ℤ, pos, negℤ, _+ℤ_, _-ℤ_}
 use lib.ListN.{length}
@@ -49,7 +50,8 @@ cipher-vector P W ct bytes =
     let us : List ℕ = unpack (P .k) N ct in
     let below : Below 65536 us = λ i. lt-of-lt-of-le (unpack-below (P .k) N ct i) (pow-mono (W .word)) in
     sym (residues-of-list 65536 us below) ∙ ap (λ (m : ℕ). residues 65536 m (ofNats us)) (length-unpack (P .k) N ct)
-    ∙ flat (P .l) (P .n) (cipherPart P ct) (ofNats us) (λ i x h l. ap pos (sym (coefficient-unpack (P .k) (P .n) N ct i x (place-below h l))))
+    ∙ flat (P .l) (P .n) (cipherPart P ct) (ofNats us)
+    (λ i x h l. ap pos (sym (coefficient-unpack (P .k) (P .n) N ct i x (place-below h l))))
 
 -- What `noisy_value` leaves: −D, then the sum of the products added, then its opposite.
 pub value-left : (P : Params) (ct r f d v s : List ℕ) → f ≡ vector (P .l) (P .n) (cipherPart P ct)
@@ -87,7 +89,8 @@ secret-half P W γ i x h l =
     let two : 2 * P .l ≡ P .l + P .l = omega arith in
     let total : secretsLength P ≡ L + L = ap (λ (m : ℕ). lengthOf P m (width P)) two ∙ length-add P (P .l) (P .l) (width P) in
     let room : width P * (i * P .n + x) + width P ≤ 8 * length first
-    = rw (length-shake (P .rate) γ L, sym (whole-bytes P W (P .l) (width P))) (rw (sym (mul-suc (width P) (i * P .n + x))) (mul-le-mul-left (width P) (place-below h l))) in
+    = rw (length-shake (P .rate) γ L, sym (whole-bytes P W (P .l) (width P)))
+    (rw (sym (mul-suc (width P) (i * P .n + x))) (mul-le-mul-left (width P) (place-below h l))) in
     ap (centred (P .p))
     (sym
     (ap (λ (m : ℕ). coefficient (width P) (P .n) (shake (P .rate) γ m) i x) total
@@ -111,7 +114,8 @@ round-mod h c v some =
     let r : ℕ = v % (2 * h) in
     let m : ℕ = v / (2 * h) in
     let split : v + c ≡ (r + c) + h * (2 * m) = omega (arith, mod-add-div v (2 * h), mul-assoc h 2 m, mul-assoc 2 h m) in
-    ap (λ (k : ℕ). k / h % 2) split ∙ ap (λ (k : ℕ). k % 2) (add-mul-div-left (r + c) (2 * m) some) ∙ add-mul-mod-self-left ((r + c) / h) 2 m
+    ap (λ (k : ℕ). k / h % 2) split ∙ ap (λ (k : ℕ). k % 2) (add-mul-div-left (r + c) (2 * m) some) ∙
+    add-mul-mod-self-left ((r + c) / h) 2 m
 
 -- q is twice its half, which is not 0.
 halves : (k : ℕ) → 2 ≤ k → (2 ^ k ≡ 2 * (2 ^ k / 2)) × (0 < 2 ^ k / 2)

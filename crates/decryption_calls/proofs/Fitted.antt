@@ -24,7 +24,8 @@ use Rattle.kindi.proofs.Padding.{length-mask, marked-padded}
 use Rattle.decryption.specs.Opened.{opened, OpenExit}
 use Rattle.decryption.proofs.Fitting.{opened-fits}
 use Rattle.calls.proofs.Ends.{given}
-use Rattle.calls.proofs.Checked.{Checked, unchecked, check-before, check-first, zero-check, refused-number, answered-number, refused-output, refused-returned, given-returned}
+use Rattle.calls.proofs.Checked.{Checked, unchecked, check-before, check-first, zero-check, refused-number, answered-number, refused-output}
+use Rattle.calls.proofs.Checked.{refused-returned, given-returned}
 use Rattle.decryption_calls.specs.Fitting.{decryptFitting, decapsFitting, endingOf, allZero, MessageExit, KeyExit}
 use Rattle.decryption_calls.proofs.Endings.{same-padded}
 
@@ -37,7 +38,8 @@ length-opened P pk coins ct = length-xorInto _ _ ∙ length-mask P coins
 
 -- Only the mark 01 gives a message.
 plain-cases : (coins message : List ℕ) (z o : Bool) → (z ≡ true → o ≡ false)
-    → plain coins (cond z blank (cond o (marked message) other)) ≡ refuseIf (not o) 6 (answered (record { coins = coins; message = message }))
+    → plain coins (cond z blank (cond o (marked message) other)) ≡
+    refuseIf (not o) 6 (answered (record { coins = coins; message = message }))
 unfolding plain refuseIf
 plain-cases coins message true true h = never (cc (h refl))
 plain-cases coins message true false h = refl
@@ -64,7 +66,8 @@ marked-within P xs mark len long e h one =
 
 -- What the code has: the padded message lies in the work area, from m + l on, d bytes.
 module _ (P : Params) (well : WellFormed P) (sk ct found work : List ℕ) (fits : Bool) (m l d : ℕ)
-    (are : found ≡ roundedCoins P (secretSeed P sk) ct) (exit : OpenExit P sk ct found fits work) (em : m ≡ matrixLength P) (el : l ≡ lowLength P) (ed : d ≡ paddedLength P) where
+    (are : found ≡ roundedCoins P (secretSeed P sk) ct) (exit : OpenExit P sk ct found fits work) (em : m ≡ matrixLength P)
+    (el : l ≡ lowLength P) (ed : d ≡ paddedLength P) where
   abbrev part : List ℕ
   part = take (m + l + d - (m + l)) (drop (m + l) work)
 
@@ -138,7 +141,8 @@ part-patched a k ys xs e h =
 
 -- The same where the digest's padded message has been added to the one in the work area.
 module _ (P : Params) (well : WellFormed P) (sk ct found work : List ℕ) (fits : Bool) (m l d : ℕ)
-    (are : found ≡ roundedCoins P (secretSeed P sk) ct) (exit : OpenExit P sk ct found fits work) (em : m ≡ matrixLength P) (el : l ≡ lowLength P) (ed : d ≡ paddedLength P)
+    (are : found ≡ roundedCoins P (secretSeed P sk) ct) (exit : OpenExit P sk ct found fits work) (em : m ≡ matrixLength P)
+    (el : l ≡ lowLength P) (ed : d ≡ paddedLength P)
     (h added : List ℕ) {equal : Bool} {differs status : ℕ} (is-h : h ≡ digest P found)
     (is-added : added ≡ xorInto (take (m + l + d - (m + l)) (drop (m + l) work)) (h ++ (1 ∷ [])))
     (is-equal : equal ≡ allZero (take (m + l + d - (m + l)) (drop (m + l) (patched (m + l) (m + l + d - (m + l)) added work))))
@@ -163,7 +167,8 @@ module _ (P : Params) (well : WellFormed P) (sk ct found work : List ℕ) (fits 
       in
       rw (second, first, ← are, ← exit .fits-is)
       (check-before (not fits) 5 (omega arith) (λ fit.
-      rw (← part-unmasked P well sk ct found work fits m l d are exit em el ed fit, same-is) (check-first (not equal) 7 (omega arith) unchecked)))
+      rw (← part-unmasked P well sk ct found work fits m l d are exit em el ed fit, same-is)
+      (check-first (not equal) 7 (omega arith) unchecked)))
 
   -- A refusal.
   pub key-refused : (key : List ℕ) → (status ≡ 0 → ⊥) → KeyExit (decapsFitting P sk ct) key status key

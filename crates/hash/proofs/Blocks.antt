@@ -3,12 +3,14 @@ use mathlib.Core.Path.{_≡_, refl, sym, ap, ap₂, _∙_, subst}
 use mathlib.Core.List.{List, [], _++_}
 use mathlib.Core.Logic.{⊎-elim}
 use Prim.Native.Nat.{ℕ, zero, suc, _+_, _-_, _*_, _/_, _%_, _≤_, _<_}
-use native.Mathlib.Nat.{add-zero, zero-add, le-refl, add-div-left, add-mod-left, mod-eq-of-lt, div-eq-of-lt, mul-div-cancel, div-add-mod', mod-lt, eq-or-lt-of-le, not-suc-le-zero, le-of-suc-le-suc}
+use native.Mathlib.Nat.{add-zero, zero-add, le-refl, add-div-left, add-mod-left, mod-eq-of-lt, div-eq-of-lt, mul-div-cancel, div-add-mod'}
+use native.Mathlib.Nat.{mod-lt, eq-or-lt-of-le, not-suc-le-zero, le-of-suc-le-suc}
 use native.Mathlib.Numerals.{add-one}
 use native.Mathlib.Omega.{arith}
 use lib.ListN.{length, getD, take, drop, replicate, length-append, length-take, length-drop, take-append-drop, drop-of-length-le}
 use Rattle.hash.proofs.Padding.{length-lastBytes, padding-is, padding-mod}
-use Rattle.hash.proofs.Steps.{sponge, ready-full, ready-room, sound-fresh, absorbed-append, absorbed-ready, absorbed-part, rate-absorbed, place-absorbed, squeezed-ready, passed-room}
+use Rattle.hash.proofs.Steps.{sponge, ready-full, ready-room, sound-fresh, absorbed-append, absorbed-ready, absorbed-part}
+use Rattle.hash.proofs.Steps.{rate-absorbed, place-absorbed, squeezed-ready, passed-room}
 use Rattle.keccak.specs.Strings.{permute, xorInto}
 use Rattle.hash.specs.Shake.{padding, absorbBlocks, absorbAll, permutes}
 use Rattle.hash.specs.Stream.{Sound, fresh, permuted, ready, absorbed, finished, nextByte, squeezed}
@@ -80,7 +82,8 @@ finished-is r m pos fits =
     let long = length-padded r m pos in
     ap ready (ap (absorbed (absorbed (fresh r) m)) (padding-absorbed r m pos fits) ∙ absorbed-append (fresh r) m (padding r (length m)))
     ∙ blocks-absorbed r (length m / r) (replicate 200 0) p pos fits long
-    ∙ ap (λ (n : ℕ). start r (absorbBlocks r n (replicate 200 0) p)) (sym (ap (λ (x : ℕ). x / r) long ∙ mul-div-cancel (suc (length m / r)) pos))
+    ∙ ap (λ (n : ℕ). start r (absorbBlocks r n (replicate 200 0) p))
+    (sym (ap (λ (x : ℕ). x / r) long ∙ mul-div-cancel (suc (length m / r)) pos))
 
 -- ---- squeezing
 

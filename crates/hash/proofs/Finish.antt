@@ -21,7 +21,8 @@ padding-left s t h is-t =
     padding-is (s .rate) (s .at) (s .rate - 1 - t .at) (omega (arith, place, known .room, known .rate))
 
 pub finish-is : (s t : Sponge) → Sound s → t ≡ ready s
-    → sponge (set (set (t .bytes) (t .at) (bitXor (getD (t .bytes) (t .at) 0) 31)) (t .rate - 1) (bitXor (getD (set (t .bytes) (t .at) (bitXor (getD (t .bytes) (t .at) 0) 31)) (t .rate - 1) 0) 128)) (t .rate) (t .rate)
+    → sponge (set (set (t .bytes) (t .at) (bitXor (getD (t .bytes) (t .at) 0) 31)) (t .rate - 1)
+    (bitXor (getD (set (t .bytes) (t .at) (bitXor (getD (t .bytes) (t .at) 0) 31)) (t .rate - 1) 0) 128)) (t .rate) (t .rate)
     ≡ finished s
 unfolding finished
 finish-is s t h is-t =

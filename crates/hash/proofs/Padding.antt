@@ -2,7 +2,8 @@
 use mathlib.Core.Path.{_≡_, refl, sym, ap, ap₂, _∙_}
 use mathlib.Core.List.{List, [], _∷_, _++_}
 use Prim.Native.Nat.{ℕ, zero, suc, _+_, _-_, _*_, _/_, _%_, _^_, _<_}
-use native.Mathlib.Nat.{zero-add, suc-add, mul-comm, mul-assoc, mod-lt, mod-eq-of-lt, div-add-mod', mul-mod-left, mul-div-cancel, mul-add-mod-self-right, pow-suc}
+use native.Mathlib.Nat.{zero-add, suc-add, mul-comm, mul-assoc, mod-lt, mod-eq-of-lt, div-add-mod', mul-mod-left, mul-div-cancel}
+use native.Mathlib.Nat.{mul-add-mod-self-right, pow-suc}
 use native.Mathlib.Omega.{arith}
 use lib.Arith.{digits-mod, digits-div}
 use lib.Bits.{bitXor, xor-block, xor-lt, xor-zero-r}
@@ -76,7 +77,8 @@ padding-is r n k e =
     let many : length (zeros ++ (1 ∷ [])) ≡ j + 1 = length-append zeros (1 ∷ []) ∙ rw length-replicate in
     let count : length bits / 8 ≡ suc k = omega (arith, many, zero-bits r n k e) in
     let number : value 1 bits ≡ 31 + 32 * 2 ^ (8 * k + 2) =
-    ap (λ (x : ℕ). 1 + 2 * (1 + 2 * (1 + 2 * (1 + 2 * (1 + 2 * x))))) (value-top j ∙ ap (λ (x : ℕ). 2 ^ x) (zero-bits r n k e)) ∙ omega arith
+    ap (λ (x : ℕ). 1 + 2 * (1 + 2 * (1 + 2 * (1 + 2 * (1 + 2 * x))))) (value-top j ∙ ap (λ (x : ℕ). 2 ^ x) (zero-bits r n k e)) ∙
+    omega arith
     in
     ap₂ (digits 8) count number ∙ digits-last k
 

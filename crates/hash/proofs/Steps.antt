@@ -11,8 +11,8 @@ use native.Mathlib.Omega.{arith}
 use borrow.Author.Tests.{eq-eqb, ne-eqb}
 use lib.Bits.{bitXor}
 use lib.ListN.{length, getD, take, drop, set, take-append-drop, length-take, length-drop}
-use lib.Seq.{drop-cons, take-add}
-use Rattle.keccak.proofs.Parts.{patched, patched-rest, take-patched, take-rest, xorInto-nothing}
+use lib.Seq.{drop-cons, take-add, take-all}
+use Rattle.keccak.proofs.Parts.{patched, length-patched, patched-rest, take-patched, take-rest, xorInto-nothing}
 use Rattle.keccak.specs.Strings.{xorInto}
 use Rattle.hash.specs.Stream.{Sound, Squeezed, fresh, permuted, ready, absorbByte, absorbed, finished, nextByte, passed, squeezed, advanced}
 use Rattle.hash.specs.declared.sponge.Sponge.{Sponge}
@@ -57,7 +57,8 @@ full-ready s h e =
 is-ready : (s : Sponge) → Sound s → Ready s (ready s)
 is-ready s h = ⊎-elim
     (λ (e : s .at ≡ s .rate). subst (Ready s) (sym (ready-full s e)) (full-ready s h e))
-    (λ (l : s .at < s .rate). subst (Ready s) (sym (ready-room s l)) (record { room = l; rate = refl; fits = h .rate-fits; again = ready-room s l; place = refl }))
+    (λ (l : s .at < s .rate). subst (Ready s) (sym (ready-room s l))
+    (record { room = l; rate = refl; fits = h .rate-fits; again = ready-room s l; place = refl }))
     (eq-or-lt-of-le (h .place))
 
 pub is-ready-as : (s t : Sponge) → Sound s → t ≡ ready s → Ready s t
@@ -187,7 +188,8 @@ xorInto-step (x ∷ l) (suc i) b bs = ap (λ (r : List ℕ). x ∷ r) (xorInto-s
 absorbByte-room : (b : List ℕ) (k r x : ℕ) → k < r → absorbByte (sponge b k r) x ≡ sponge (set b k (bitXor (getD b k 0) x)) (k + 1) r
 unfolding absorbByte
 absorbByte-room b k r x h =
-    ap (λ (t : Sponge). sponge (set (t .bytes) (t .at) (bitXor (getD (t .bytes) (t .at) 0) x)) (t .at + 1) (t .rate)) (ready-room (sponge b k r) h)
+    ap (λ (t : Sponge). sponge (set (t .bytes) (t .at) (bitXor (getD (t .bytes) (t .at) 0) x)) (t .at + 1) (t .rate))
+    (ready-room (sponge b k r) h)
 
 -- Absorbing a part adds it into the string at the sponge's place.
 pub absorbed-part : (b : List ℕ) (k r : ℕ) (xs : List ℕ) → k + length xs ≤ r
@@ -240,7 +242,8 @@ part-absorbed s n ys xs e h wrote =
     let k = s .at in
     let whole : patched k (length b - k) ys b ≡ take k b ++ xorInto (drop k b) xs =
     patched-rest k ys b
-    ∙ ap (λ (l : List ℕ). take k b ++ l) (subst (λ (m : ℕ). ys ≡ xorInto (take (m - k) (drop k b)) xs) (sym e) wrote ∙ ap (λ (l : List ℕ). xorInto l xs) (take-rest k b))
+    ∙ ap (λ (l : List ℕ). take k b ++ l)
+    (subst (λ (m : ℕ). ys ≡ xorInto (take (m - k) (drop k b)) xs) (sym e) wrote ∙ ap (λ (l : List ℕ). xorInto l xs) (take-rest k b))
     in
     ap (λ (l : List ℕ). sponge l (k + length xs) (s .rate)) (ap (λ (m : ℕ). patched k (m - k) ys b) (sym e) ∙ whole)
     ∙ sym (absorbed-part b k (s .rate) xs h)
@@ -255,27 +258,85 @@ part-squeezed s n ys h l is =
       bytes = is ∙ ap (λ (k : ℕ). take k (drop (s .at) (s .bytes))) same ∙ sym (squeezed-part (s .bytes) (s .at) (s .rate) n h l);
     }
 
-pub absorb-more : (s₀ s t u : Sponge) (input : List ℕ) (done k : ℕ) → Sound s → s ≡ absorbed s₀ (take done input) → t ≡ ready s
-    → 0 < k → done + k ≤ length input → u ≡ absorbed t (take (done + k - done) (drop done input)) → u ≡ absorbed s₀ (take (done + k) input)
-absorb-more s₀ s t u input done k h so-far is-t some room is-u =
-    let part = take k (drop done input) in
-    let same : done + k - done ≡ k = omega arith in
-    let long : length part ≡ k = simp (length-take, length-drop) (omega arith) in
-    is-u ∙ ap (λ (n : ℕ). absorbed t (take n (drop done input))) same ∙ ap (λ (v : Sponge). absorbed v part) is-t
-    ∙ sym (absorbed-ready s part h (omega arith)) ∙ ap (λ (v : Sponge). absorbed v part) so-far
-    ∙ absorbed-append s₀ (take done input) part ∙ ap (absorbed s₀) (sym (take-add done k input))
+-- ---- what the loops carry
 
-pub squeeze-more : (s₀ s t u : Sponge) (done k : ℕ) → Sound s → s ≡ advanced s₀ done → t ≡ ready s → 0 < k → u ≡ advanced t k
-    → u ≡ advanced s₀ (done + k)
-squeeze-more s₀ s t u done k h so-far is-t some is-u =
-    is-u ∙ ap (λ (v : Sponge). advanced v k) is-t ∙ sym (advanced-ready s k h some) ∙ ap (λ (v : Sponge). advanced v k) so-far
-    ∙ sym (advanced-add s₀ done k)
+-- `absorb`: the sponge has absorbed what stands before `done`.
+pub record Absorbing (s₀ : Sponge) (input : List ℕ) (done : ℕ) (s : Sponge) : Type 0 where
+  pub begun : Sound s₀
+  pub within : done ≤ length input
+  pub is : s ≡ absorbed s₀ (take done input)
 
-pub squeeze-more-bytes : (s₀ s t : Sponge) (done k : ℕ) (ys output : List ℕ) → Sound s → s ≡ advanced s₀ done → t ≡ ready s
-    → length ys ≡ k → done + k ≤ length output → ys ≡ squeezed t k → take done output ≡ squeezed s₀ done
-    → take (done + k) (patched done k ys output) ≡ squeezed s₀ (done + k)
-squeeze-more-bytes s₀ s t done k ys output h so-far is-t long room is-ys front =
-    let next : ys ≡ squeezed (advanced s₀ done) k =
-    is-ys ∙ ap (λ (v : Sponge). squeezed v k) is-t ∙ sym (squeezed-ready s k h) ∙ ap (λ (v : Sponge). squeezed v k) so-far
-    in
-    take-patched done k ys output long room ∙ ap₂ _++_ front next ∙ sym (squeezed-append s₀ done k)
+module _ {s₀ : Sponge} {input : List ℕ} {done : ℕ} {s : Sponge} (h : Absorbing s₀ input done s) where
+  absorbing-sound : Sound s
+  absorbing-sound = subst Sound (sym (h .is)) (sound-absorbed s₀ (take done input) (h .begun))
+
+  module _ {t : Sponge} (is-t : t ≡ ready s) where
+    pub absorbing-ready : Ready s t
+    absorbing-ready = is-ready-as s t absorbing-sound is-t
+
+    -- The next k bytes.
+    pub absorbing-more : (k : ℕ) {u : Sponge} → 0 < k → done + k ≤ length input
+        → u ≡ absorbed t (take (done + k - done) (drop done input))
+        → Absorbing s₀ input (done + k) u
+    absorbing-more k some room is-u =
+        let part = take k (drop done input) in
+        let same : done + k - done ≡ k = omega arith in
+        let long : length part ≡ k = simp (length-take, length-drop) (omega arith) in
+        record {
+          begun = h .begun;
+          within = room;
+          is =
+              is-u ∙ ap (λ (n : ℕ). absorbed t (take n (drop done input))) same ∙ ap (λ (v : Sponge). absorbed v part) is-t
+              ∙ sym (absorbed-ready s part absorbing-sound (omega arith)) ∙ ap (λ (v : Sponge). absorbed v part) (h .is)
+              ∙ absorbed-append s₀ (take done input) part ∙ ap (absorbed s₀) (sym (take-add done k input));
+        }
+
+-- `squeeze`: the output up to `done` is what the sponge gives first, and the sponge has advanced by as much.
+pub record Squeezing (s₀ : Sponge) (output₀ : List ℕ) (done : ℕ) (s : Sponge) (output : List ℕ) : Type 0 where
+  pub begun : Sound s₀
+  pub within : done ≤ length output₀
+  pub long : length output ≡ length output₀
+  pub sponge : s ≡ advanced s₀ done
+  pub bytes : take done output ≡ squeezed s₀ done
+
+module _ {s₀ : Sponge} {output₀ : List ℕ} {done : ℕ} {s : Sponge} {output : List ℕ} (h : Squeezing s₀ output₀ done s output) where
+  squeezing-sound : Sound s
+  squeezing-sound = subst Sound (sym (h .sponge)) (sound-advanced s₀ done (h .begun))
+
+  module _ {t : Sponge} (is-t : t ≡ ready s) where
+    pub squeezing-ready : Ready s t
+    squeezing-ready = is-ready-as s t squeezing-sound is-t
+
+    -- The next k bytes.
+    pub squeezing-more : (k : ℕ) {u : Sponge} {ys : List ℕ} → 0 < k → done + k ≤ length output₀
+        → Squeezed t (length (take (done + k - done) (drop done output))) u ys
+        → Squeezing s₀ output₀ (done + k) u (patched done (done + k - done) ys output)
+    squeezing-more k {u} {ys} some room gave =
+        let step : done + k - done ≡ k = omega arith in
+        let inside : done + k ≤ length output = omega (arith, h .long) in
+        let size : length (take (done + k - done) (drop done output)) ≡ k = simp (length-take, length-drop) (omega arith) in
+        let long : length ys ≡ k = ap length (gave .bytes) ∙ length-squeezed t _ ∙ size in
+        let next : ys ≡ squeezed (advanced s₀ done) k =
+        gave .bytes ∙ ap (squeezed t) size ∙ ap (λ (v : Sponge). squeezed v k) is-t ∙ sym (squeezed-ready s k squeezing-sound)
+        ∙ ap (λ (v : Sponge). squeezed v k) (h .sponge)
+        in
+        rw step
+        (record {
+          begun = h .begun;
+          within = room;
+          long = length-patched done k ys output long inside ∙ h .long;
+          sponge =
+              gave .sponge ∙ ap (advanced t) size ∙ ap (λ (v : Sponge). advanced v k) is-t ∙ sym (advanced-ready s k squeezing-sound some)
+              ∙ ap (λ (v : Sponge). advanced v k) (h .sponge) ∙ sym (advanced-add s₀ done k);
+          bytes = take-patched done k ys output long inside ∙ ap₂ _++_ (h .bytes) next ∙ sym (squeezed-append s₀ done k);
+        })
+
+  -- After the last turn.
+  pub squeezing-all : length output₀ ≤ done → Squeezed s₀ (length output₀) s output
+  squeezing-all last =
+      let all : done ≡ length output₀ = omega (arith, h .within) in
+      let full : length output ≤ done = omega (arith, h .long) in
+      record {
+        sponge = h .sponge ∙ ap (advanced s₀) all;
+        bytes = sym (take-all done output full) ∙ h .bytes ∙ ap (squeezed s₀) all;
+      }

@@ -2,13 +2,13 @@
 -- bytes, and bytes that are added one after another. Assumes nothing.
 use mathlib.Core.Path.{_≡_, refl, sym, ap, ap₂, _∙_}
 use mathlib.Core.List.{List, [], _∷_, _++_, append-assoc, append-nil}
-use Prim.Native.Nat.{ℕ, zero, suc, _+_, _-_, _*_, _/_, _%_, _^_, _≤_, _<_}
-use native.Mathlib.Nat.{not-suc-le-zero, le-of-suc-le-suc, div-div-eq-div-mul}
-use native.Mathlib.Numerals.{add-one, towards-suc}
+use Prim.Native.Nat.{ℕ, zero, suc, _+_, _-_, _*_, _/_, _%_, _^_, _≤_, _<_, zero-le}
+use native.Mathlib.Nat.{not-suc-le-zero, le-of-suc-le-suc, le-refl, mul-le-mul, div-div-eq-div-mul}
+use native.Mathlib.Numerals.{add-one, towards-suc, unary-clauses}
 use native.Mathlib.Omega.{arith}
 use lib.Bits.{bitXor}
 use lib.ListN.{length, getD, take, drop, set, length-append, length-take, length-drop, drop-of-length-le}
-use lib.Seq.{take-append-seam, take-suc, drop-cons, sets-eq, take-all}
+use lib.Seq.{take-append-seam, take-suc, drop-cons, sets-eq, take-all, take-at}
 use Rattle.keccak.specs.Lists.{concatMap, value, digits}
 use Rattle.keccak.specs.Strings.{laneAt, xorInto}
 
@@ -34,6 +34,12 @@ pub patched-rest : {A : Type 0} (a : ℕ) (ys xs : List A) → patched a (length
 patched-rest {A} a ys xs =
     let none : drop (length xs - a) (drop a xs) ≡ [] = drop-of-length-le (drop a xs) {i = length xs - a} (simp length-drop (omega arith)) in
     ap (λ (l : List A). take a xs ++ (ys ++ l)) none ∙ ap (λ (l : List A). take a xs ++ l) (append-nil ys)
+
+-- A list whose first n entries and then all the others were written.
+pub both-parts : {A : Type 0} (n : ℕ) (front back xs : List A) → length front ≡ n
+    → patched n (length (front ++ drop n xs) - n) back (front ++ drop n xs) ≡ front ++ back
+both-parts {A} n front back xs long =
+    patched-rest n back (front ++ drop n xs) ∙ ap (λ (l : List A). l ++ back) (take-at front (drop n xs) n long)
 
 pub take-rest : {A : Type 0} (a : ℕ) (xs : List A) → take (length xs - a) (drop a xs) ≡ drop a xs
 take-rest a xs = take-all (length xs - a) (drop a xs) (simp length-drop (omega arith))
@@ -66,6 +72,50 @@ fill-more f xs d k i dst ys h e room is so-far =
     let next : k * (i + 1) ≡ k * i + k = omega arith in
     ap (λ (n : ℕ). take n (patched (k * i) k ys dst)) next ∙ take-patched (k * i) k ys dst long room
     ∙ ap₂ _++_ so-far is ∙ rw add-one (sym (concatMap-more f xs i d h))
+
+-- What a loop carries that writes a string so: dst has room for the lists of count entries, and after i turns it has the first i.
+pub record PartsWritten {A : Type 0} (f : A → List ℕ) (xs : List A) (k count i : ℕ) (dst : List ℕ) : Type 0 where
+  pub entries : length xs ≡ count
+  pub within : i ≤ count
+  pub long : length dst ≡ k * count
+  pub front : take (k * i) dst ≡ concatMap f (take i xs)
+
+module _ {A : Type 0} {f : A → List ℕ} {xs : List A} {k count : ℕ} where
+  pub parts-begun : {dst : List ℕ} → length xs ≡ count → length dst ≡ k * count → PartsWritten f xs k count 0 dst
+  unfolding concatMap
+  parts-begun {dst} entries long = record {
+    entries = entries;
+    within = zero-le;
+    long = long;
+    front = simp unary-clauses;
+  }
+
+  module _ {i : ℕ} {dst : List ℕ} (h : PartsWritten f xs k count i dst) where
+    pub part-room : i < count → k * i + k ≤ length dst
+    part-room in-it =
+        let next : k * i + k ≡ k * (i + 1) = omega arith in
+        rw (next, h .long) (mul-le-mul (le-refl k) (omega arith))
+
+    -- One part more.
+    pub parts-more : (d : A) {ys : List ℕ} → i < count → length ys ≡ k → ys ≡ f (getD xs i d)
+        → PartsWritten f xs k count (i + 1) (patched (k * i) (k * i + k - k * i) ys dst)
+    parts-more d {ys} in-it long is =
+        let step : k * i + k - k * i ≡ k = omega arith in
+        let inside : i < length xs = omega (arith, h .entries) in
+        rw step
+        (record {
+          entries = h .entries;
+          within = omega arith;
+          long = length-patched (k * i) k ys dst long (part-room in-it) ∙ h .long;
+          front = fill-more f xs d k i dst ys inside (ap length (sym is) ∙ long) (part-room in-it) is (h .front);
+        })
+
+    -- After the last part.
+    pub parts-all : count ≤ i → dst ≡ concatMap f xs
+    parts-all last =
+        let all : i ≡ count = omega (arith, h .within) in
+        let filled : length dst ≤ k * i = rw (all, h .long) (le-refl _) in
+        sym (take-all (k * i) dst filled) ∙ h .front ∙ ap (concatMap f) (take-all i xs (omega (arith, h .entries)))
 
 -- ---- digits
 

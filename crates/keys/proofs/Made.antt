@@ -48,7 +48,8 @@ compressed-below k t (x ∷ xs) h below zero =
 compressed-below k t (x ∷ xs) h below (suc i) = compressed-below k t xs h (λ j. below (suc j)) i
 
 -- So packing keeps them whole: the steps from a sum to its bytes.
-pub packed-sum : (k t : ℕ) → t ≤ k → (xs : List ℕ) {sum low high bytes : List ℕ} → sum ≡ xs → low ≡ lowBits k sum → high ≡ map (compress t) low
+pub packed-sum : (k t : ℕ) → t ≤ k → (xs : List ℕ) {sum low high bytes : List ℕ} → sum ≡ xs → low ≡ lowBits k sum → high ≡
+    map (compress t) low
     → bytes ≡ pack (k - t) (lowBits (k - t) high) → bytes ≡ pack (k - t) (map (compress t) (lowBits k xs))
 packed-sum k t h xs es el eh eb =
     let made = eh ∙ ap (map (compress t)) (el ∙ ap (lowBits k) es) in
@@ -77,7 +78,8 @@ unfolding lengthOf
 length-parts P W t rows secrets i =
     let w : ℕ = P .k - t in
     let each : (j : ℕ) → length (storedPart P t rows secrets j) ≡ lengthOf P 1 w
-    = λ j. length-pack w (compressedPart P t (matrixIn P rows) (smallIn P secrets) j) ∙ sym (fills P W w (length-compressed P t (matrixIn P rows) (smallIn P secrets) j) refl) in
+    = λ j. length-pack w (compressedPart P t (matrixIn P rows) (smallIn P secrets) j) ∙
+    sym (fills P W w (length-compressed P t (matrixIn P rows) (smallIn P secrets) j) refl) in
     length-joined i (lengthOf P 1 w) (storedPart P t rows secrets) (λ j _. each j) ∙ ap (λ (m : ℕ). i * m) (one-mul (P .n / 8 * w))
 
 -- a polynomials and then b lie within m.
@@ -99,7 +101,8 @@ pub length-more : (P : Params) (w a b : ℕ) {m x y : ℕ} → a + b ≡ m → x
 length-more P w a b e ex ey = ap₂ _+_ ex ey ∙ sym (length-add P a b w) ∙ ap (λ (z : ℕ). lengthOf P z w) e
 
 -- What public_part leaves is stored polynomial i, where the vectors hold row i and r.
-pub part-made : (P : Params) → WellFormed P → (t : ℕ) (rows secrets : List ℕ) → Below 256 rows → Below 256 secrets → (i a b : ℕ) {N : ℕ} {f r ys : List ℕ}
+pub part-made : (P : Params) → WellFormed P → (t : ℕ) (rows secrets : List ℕ) → Below 256 rows → Below 256 secrets →
+    (i a b : ℕ) {N : ℕ} {f r ys : List ℕ}
     → a ≡ lengthOf P (i * P .l) (P .k) → b ≡ lengthOf P (P .l + i) (width P) → N ≡ P .l * P .n
     → f ≡ unpack (P .k) N (take (length rows - a) (drop a rows)) → r ≡ vector (P .l) (P .n) (smallIn P secrets)
     → ys ≡ pack (P .k - t) (map (compress t) (lowBits (P .k) (sumPart P (take (length secrets - b) (drop b secrets)) f r)))
@@ -109,7 +112,8 @@ part-made P W t rows secrets bytes bytes' i a b {N} {f} {r} ea eb eN ef er ey =
     let same : take (length secrets - b) (drop b secrets) ≡ errors = take-rest b secrets ∙ ap (λ (m : ℕ). drop m secrets) eb in
     let row : f ≡ unpack (P .k) (P .l * P .n) (drop (lengthOf P (i * P .l) (P .k)) rows)
     = ef ∙ ap₂ (unpack (P .k)) eN (take-rest a rows ∙ ap (λ (m : ℕ). drop m rows) ea) in
-    let held : (xs : List ℕ) (F : ℕ → Poly) → xs ≡ vector (P .l) (P .n) F → (j x : ℕ) → j < P .l → x < P .n → Cong 65536 (parts (P .n) xs j x) (F j x)
+    let held : (xs : List ℕ) (F : ℕ → Poly) → xs ≡ vector (P .l) (P .n) F → (j x : ℕ) → j < P .l → x < P .n →
+    Cong 65536 (parts (P .n) xs j x) (F j x)
     = λ xs F e j x h l. cong-trans (cong-of-eq (ap (λ (ys : List ℕ). parts (P .n) ys j x) e)) (vector-cong (P .l) (P .n) F j x h l) in
     ey ∙ ap (λ (xs : List ℕ). pack (P .k - t) (map (compress t) xs))
     (ap (λ (l : List ℕ). lowBits (P .k) (sumPart P l f r)) same
@@ -117,7 +121,8 @@ part-made P W t rows secrets bytes bytes' i a b {N} {f} {r} ea eb eN ef er ey =
     (held f (matrixIn P rows i) (row ∙ plain-vector P W (P .l) (P .k) (i * P .l) rows (W .word) bytes)) (held r (smallIn P secrets) er)
     ∙ residues-ext (modulus P) (P .n) _ _ (λ x h.
     ap (λ (v : ℕ). dot (P .l) (P .n) (matrixIn P rows i) (smallIn P secrets) x +ℤ centred (P .p) v)
-    (coefficient-drop P W (width P) (P .l + i) 0 x secrets bytes' ∙ ap (λ (m : ℕ). coefficient (width P) (P .n) secrets m x) (add-zero (P .l + i)))))
+    (coefficient-drop P W (width P) (P .l + i) 0 x secrets bytes' ∙
+    ap (λ (m : ℕ). coefficient (width P) (P .n) secrets m x) (add-zero (P .l + i)))))
 
 -- What small leaves is r.
 pub secret-held : (P : Params) (secrets : List ℕ) {w N : ℕ} {r : List ℕ} → w ≡ width P → N ≡ P .l * P .n
@@ -138,7 +143,8 @@ stored-joined P W t h streams =
     sym (pack-joined w (P .n) (lengthOf P 1 w) (P .l) (compressedPart P t A r)
     (ap (λ (n : ℕ). w * n) (sym (one-mul (P .n))) ∙ whole-bytes P W 1 w)
     (λ j _. length-compressed P t A r j)
-    (λ j _. compressed-below (P .k) t (residues (modulus P) (P .n) (publicBy P A r j)) h (residues-below (pow-pos (P .k)) (P .n) (publicBy P A r j))))
+    (λ j _. compressed-below (P .k) t (residues (modulus P) (P .n) (publicBy P A r j)) h
+    (residues-below (pow-pos (P .k)) (P .n) (publicBy P A r j))))
 
 -- So they are where the streams lie one after the other.
 pub stored-made : (P : Params) → WellFormed P → (t : ℕ) → t ≤ P .k → (streams : List ℕ) (m : ℕ) {ys : List ℕ} → m ≡ matrixLength P
@@ -162,7 +168,8 @@ streams-long P μ γ =
     ∙ ap₂ _+_ (length-shake (P .rate) μ (matrixLength P)) (length-shake (P .rate) γ (secretsLength P))
 
 -- They are there once both parts of the work area are written.
-pub streams-made : (P : Params) (work μ γ : List ℕ) {m s : ℕ} {first second : List ℕ} → m ≡ matrixLength P → s ≡ secretsLength P → m + s ≤ length work
+pub streams-made : (P : Params) (work μ γ : List ℕ) {m s : ℕ} {first second : List ℕ} → m ≡ matrixLength P → s ≡ secretsLength P → m + s ≤
+    length work
     → first ≡ shake (P .rate) μ (length (take m work))
     → second ≡ shake (P .rate) γ (length (take (m + s - m) (drop m (first ++ drop m work))))
     → take (m + s) (patched m (m + s - m) second (first ++ drop m work)) ≡ keyStreams P μ γ
@@ -187,12 +194,14 @@ key-made P μ γ streams e = ap (λ (l : List ℕ). l ++ μ) (stored-of P (P .t)
 
 -- Both keys, written part by part.
 pub public-made : (P : Params) (μ γ pk streams : List ℕ) {n : ℕ} {stored seed : List ℕ} → length stored ≡ n → streams ≡ keyStreams P μ γ
-    → stored ≡ storedFrom P (P .t) streams → seed ≡ μ → patched n (length (stored ++ drop n pk) - n) seed (stored ++ drop n pk) ≡ publicKey P μ γ
+    → stored ≡ storedFrom P (P .t) streams → seed ≡ μ → patched n (length (stored ++ drop n pk) - n) seed (stored ++ drop n pk) ≡
+    publicKey P μ γ
 public-made P μ γ pk streams {n} {stored} {seed} long e es eμ = then-rest n pk stored seed long ∙ ap₂ _++_ es eμ ∙ key-made P μ γ streams e
 
 pub secret-made : (P : Params) (μ γ z sk : List ℕ) (a k : ℕ) {pk g y : List ℕ} → length pk ≡ a → length g ≡ k → a + k ≤ length sk
     → pk ≡ publicKey P μ γ → g ≡ γ → y ≡ z
-    → patched (a + k) (length (patched a (a + k - a) g (pk ++ drop a sk)) - (a + k)) y (patched a (a + k - a) g (pk ++ drop a sk)) ≡ secretKey P μ γ z
+    → patched (a + k) (length (patched a (a + k - a) g (pk ++ drop a sk)) - (a + k)) y (patched a (a + k - a) g (pk ++ drop a sk)) ≡
+    secretKey P μ γ z
 unfolding secretKey
 secret-made P μ γ z sk a k {pk} {g} {y} l m h e eg ez =
     patched-rest (a + k) y (patched a (a + k - a) g (pk ++ drop a sk))

@@ -14,7 +14,8 @@ use Rattle.kindi.specs.Encrypt.{ciphertext}
 use Rattle.kindi.specs.Decrypt.{roundedCoins}
 use Rattle.kindi.specs.Kem.{digest}
 use Rattle.kindi.specs.Noise.{clear}
-use Rattle.kindi.specs.Answers.{answered, Keys, Plain, Shared, Size, keygen, encrypt, encaps, decrypt, decaps, noiseOf, recoveredCoins, agrees, clearUnder}
+use Rattle.kindi.specs.Answers.{answered, Keys, Plain, Shared, Size, keygen, encrypt, encaps, decrypt, decaps, noiseOf}
+use Rattle.kindi.specs.Answers.{recoveredCoins, agrees, clearUnder}
 use Rattle.kindi.proofs.Chains.{passed, same-length, same-eq, answered-eq, encrypted, encapsulated, recovered-answers}
 use Rattle.kindi.proofs.Made.{length-ciphertext, ciphertext-below, length-secretKey, publicPart-made, secretSeed-made}
 use Rattle.kindi.proofs.Rounding.{clear-coins}

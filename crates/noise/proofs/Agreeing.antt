@@ -91,7 +91,8 @@ dropped-packed P f long below =
     ∙ ap (pack (P .k - P .t)) (map-joined (compress (P .t)) (P .l) f)
 
 -- b in full, where no bits are dropped.
-pub value-made : (P : Params) (sk streams : List ℕ) {ys : List ℕ} → streams ≡ keyStreams P (matrixSeed P (publicPart P sk)) (secretSeed P sk)
+pub value-made : (P : Params) (sk streams : List ℕ) {ys : List ℕ} → streams ≡
+    keyStreams P (matrixSeed P (publicPart P sk)) (secretSeed P sk)
     → ys ≡ storedFrom P 0 streams → ys ≡ valueOf P sk
 unfolding valueOf
 value-made P sk streams e ey =
@@ -113,7 +114,8 @@ agrees-is P W sk {a} long ea =
     let Z : List ℕ = pack (P .k - P .t) (joined (P .l) (λ i. map (compress (P .t)) (f i))) in
     let first : take a sk ≡ take n pk = ap (λ (m : ℕ). take m sk) ea ∙ sym (take-take n (publicLength P) sk (omega arith)) in
     let size : length (take n pk) ≡ n = simp length-take (omega (arith, long)) in
-    let size' : length Z ≡ n = length-string P W (P .l) (P .k - P .t) (λ i. map (compress (P .t)) (f i)) (λ i _. length-map (f i) (compress (P .t)) ∙ sized i) in
+    let size' : length Z ≡ n = length-string P W (P .l) (P .k - P .t) (λ i. map (compress (P .t)) (f i))
+    (λ i _. length-map (f i) (compress (P .t)) ∙ sized i) in
     ap₂ same first (dropped-packed P f (λ i _. sized i) (λ i _. residues-below (pow-pos (P .k)) (P .n) (public P μ (secretSeed P sk) i)))
     ∙ sym (same-after (take n pk) Z μ (size ∙ sym size')) ∙ ap (λ (l : List ℕ). same l (Z ++ μ)) (take-append-drop n pk)
 

@@ -42,14 +42,21 @@ small-below P W bytes m x = rw (W .narrow) at (coefficient-below (width P) (P .n
 pub first-below : (P : Params) → WellFormed P → (coins high : List ℕ) (x : ℕ)
     → coefficient 1 (P .n) coins 0 x + 2 * coefficient (highWidth P) (P .n) high 0 x < 2 * P .p
 first-below P W coins high x =
-    omega (arith, coefficient-below 1 (P .n) coins 0 x, coefficient-below (highWidth P) (P .n) high 0 x, twice (width P) (omega (arith, W .wide)), W .narrow)
+    omega (
+      arith,
+      coefficient-below 1 (P .n) coins 0 x,
+      coefficient-below (highWidth P) (P .n) high 0 x,
+      twice (width P) (omega (arith, W .wide)),
+      W .narrow,
+    )
 
 -- Small polynomials, s_1 among them, have coefficients of at most p.
 pub small-sized : (P : Params) → WellFormed P → (bytes : List ℕ) (m : ℕ) → Sized (P .n) (P .p) (smallIn P bytes m)
 small-sized P W bytes m x h =
     abs-centred (P .p) (coefficient (width P) (P .n) bytes m x) (le-refl (P .p)) (omega (arith, small-below P W bytes m x))
 
-pub ephemeral-sized : (P : Params) → WellFormed P → (coins high rest : List ℕ) (i : ℕ) → Sized (P .n) (P .p) (ephemeralBy P coins high rest i)
+pub ephemeral-sized : (P : Params) → WellFormed P → (coins high rest : List ℕ) (i : ℕ) →
+    Sized (P .n) (P .p) (ephemeralBy P coins high rest i)
 unfolding ephemeralBy
 ephemeral-sized P W coins high rest zero x h =
     abs-centred (P .p) (coefficient 1 (P .n) coins 0 x + 2 * coefficient (highWidth P) (P .n) high 0 x) (le-refl (P .p))
@@ -63,7 +70,8 @@ noiseMost P = 2 ^ (P .t - 1) + P .p + 2 ^ P .t
 pub error-sized : (P : Params) → WellFormed P → (bytes : List ℕ) (m : ℕ) → Sized (P .n) (noiseMost P) (smallIn P bytes m)
 error-sized P W bytes m x h = omega (arith, small-sized P W bytes m x h)
 
-pub key-noise-sized : (P : Params) → WellFormed P → (stream secrets b : List ℕ) (i : ℕ) → Sized (P .n) (noiseMost P) (keyNoiseIn P stream secrets b i)
+pub key-noise-sized : (P : Params) → WellFormed P → (stream secrets b : List ℕ) (i : ℕ) →
+    Sized (P .n) (noiseMost P) (keyNoiseIn P stream secrets b i)
 unfolding keyNoiseIn
 key-noise-sized P W stream secrets b i x h =
     let low : natAbs (lowIn P stream i x) ≤ 2 ^ (P .t - 1) =
@@ -102,18 +110,28 @@ sum-fits {h} {w} {p} {r} hh hw hp hr =
 pub noise-fits : {h w p r v : ℕ} → h < 4096 → w < 4096 → p < 4096 → r < 4096 → v < 4096 → SFits w16 ((centred h w +ℤ centred p r) -ℤ pos v)
 noise-fits {h} {w} {p} {r} {v} hh hw hp hr hv =
     fits-abs w16 ((centred h w +ℤ centred p r) -ℤ pos v)
-    (omega (arith, natAbs-add (centred h w +ℤ centred p r) (negℤ (pos v)), natAbs-neg (pos v), natAbs-add (centred h w) (centred p r), centred-size h w hh hw, centred-size p r hp hr))
+    (omega (
+      arith,
+      natAbs-add (centred h w +ℤ centred p r) (negℤ (pos v)),
+      natAbs-neg (pos v),
+      natAbs-add (centred h w) (centred p r),
+      centred-size h w hh hw,
+      centred-size p r hp hr,
+    ))
 
 -- q/4.
 pub quarter-power : (k : ℕ) → 2 ≤ k → 2 ^ (k - 2) ≡ 2 ^ k / 4
 quarter-power k h =
     let rest : k - 2 + 2 ≡ k = omega arith in
-    sym (ap (λ (m : ℕ). 2 ^ m / 4) (sym rest) ∙ ap (λ (m : ℕ). m / 4) (pow-add 2 (k - 2) 2) ∙ mul-div-cancel (2 ^ (k - 2)) (suc-le-suc zero-le))
+    sym (ap (λ (m : ℕ). 2 ^ m / 4) (sym rest) ∙ ap (λ (m : ℕ). m / 4) (pow-add 2 (k - 2) 2) ∙
+    mul-div-cancel (2 ^ (k - 2)) (suc-le-suc zero-le))
 
 -- Values of a small polynomial, and of s_1, are below 2^15.
-pub small-values : (P : Params) → WellFormed P → (bytes : List ℕ) (m : ℕ) → Below 32768 (tabulate (P .n) (coefficient (width P) (P .n) bytes m))
+pub small-values : (P : Params) → WellFormed P → (bytes : List ℕ) (m : ℕ) →
+    Below 32768 (tabulate (P .n) (coefficient (width P) (P .n) bytes m))
 small-values P W bytes m =
-    tabulate-below 32768 (P .n) (coefficient (width P) (P .n) bytes m) (suc-le-suc zero-le) (λ x _. omega (arith, small-below P W bytes m x, W .small-secrets))
+    tabulate-below 32768 (P .n) (coefficient (width P) (P .n) bytes m) (suc-le-suc zero-le)
+    (λ x _. omega (arith, small-below P W bytes m x, W .small-secrets))
 
 pub first-values : (P : Params) → WellFormed P → (coins high : List ℕ)
     → Below 32768 (tabulate (P .n) (λ x. coefficient 1 (P .n) coins 0 x + 2 * coefficient (highWidth P) (P .n) high 0 x))
@@ -142,4 +160,5 @@ stored-short P W =
 pub quarter-fits : (P : Params) → WellFormed P → SFits w32 (pos 0 -ℤ pos (modulus P / 4))
 quarter-fits P W =
     let most : 2 ^ P .k ≤ 2 ^ 16 = pow-mono (W .word) in
-    rw (+ℤ-idl (negℤ (pos (modulus P / 4)))) (fits-abs w32 (negℤ (pos (modulus P / 4))) (rw (natAbs-neg (pos (modulus P / 4))) (omega arith)))
+    rw (+ℤ-idl (negℤ (pos (modulus P / 4))))
+    (fits-abs w32 (negℤ (pos (modulus P / 4))) (rw (natAbs-neg (pos (modulus P / 4))) (omega arith)))

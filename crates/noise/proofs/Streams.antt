@@ -21,7 +21,8 @@ use Rattle.ring.specs.Poly.{Poly, plus, minus, dot, ofInts, residues}
 use Rattle.ring.proofs.Ring.{dot-ext}
 use Rattle.ring.proofs.Residues.{residues-at, residues-below, length-residues}
 use Rattle.kindi.specs.declared.Params.{Params}
-use Rattle.kindi.specs.Params.{WellFormed, modulus, storedLength, secretLength, lowLength, paddedLength, highLength, matrixLength, secretsLength, coinsStreamLength}
+use Rattle.kindi.specs.Params.{WellFormed, modulus, storedLength, secretLength, lowLength, paddedLength, highLength, matrixLength}
+use Rattle.kindi.specs.Params.{secretsLength, coinsStreamLength}
 use Rattle.kindi.specs.Streams.{coefficient, smallIn, lowIn, lowPart, keySecret, mask, coinsStream, ephemeralBy, ephemeral}
 use Rattle.kindi.specs.Keys.{public, publicPart, matrixSeed, secretSeed}
 use Rattle.kindi.specs.Encrypt.{masked, error}
@@ -41,11 +42,13 @@ maskedStream P coins message = patched (lowLength P) (paddedLength P) (masked P 
 -- It is as long as the stream.
 pub length-masked-stream : (P : Params) (coins message : List ℕ) → length (maskedStream P coins message) ≡ coinsStreamLength P
 length-masked-stream P coins message =
-    length-patched (lowLength P) (paddedLength P) (masked P coins message) (coinsStream P coins) (length-masked P coins message) (omega (arith, length-stream P coins))
+    length-patched (lowLength P) (paddedLength P) (masked P coins message) (coinsStream P coins) (length-masked P coins message)
+    (omega (arith, length-stream P coins))
     ∙ length-stream P coins
 
 -- What `masked_stream` leaves.
-pub masked-made : (P : Params) (coins message : List ℕ) (a k : ℕ) {N : ℕ} {S ys : List ℕ} → a ≡ lowLength P → k ≡ paddedLength P → N ≡ coinsStreamLength P
+pub masked-made : (P : Params) (coins message : List ℕ) (a k : ℕ) {N : ℕ} {S ys : List ℕ} → a ≡ lowLength P → k ≡ paddedLength P → N ≡
+    coinsStreamLength P
     → S ≡ shake (P .rate) coins N → ys ≡ xorInto (take (a + k - a) (drop a S)) (message ++ (1 ∷ []))
     → patched a (a + k - a) ys S ≡ maskedStream P coins message
 unfolding coinsStream mask
@@ -72,14 +75,16 @@ pub secret-seed-part : (P : Params) (sk : List ℕ) {a : ℕ} → a ≡ storedLe
     → take (a + P .seed + P .seed - (a + P .seed)) (drop (a + P .seed) sk) ≡ secretSeed P sk
 unfolding secretSeed
 secret-seed-part P sk {a} e =
-    ap (λ (m : ℕ). take m (drop (a + P .seed) sk)) (add-sub-cancel-left (a + P .seed) (P .seed)) ∙ ap (λ (m : ℕ). take (P .seed) (drop (m + P .seed) sk)) e
+    ap (λ (m : ℕ). take m (drop (a + P .seed) sk)) (add-sub-cancel-left (a + P .seed) (P .seed)) ∙
+    ap (λ (m : ℕ). take (P .seed) (drop (m + P .seed) sk)) e
 
 -- ---- the noise of the streams
 
 -- X of the streams is X of the keys.
 key-noise-is : (P : Params) → WellFormed P → (sk coins b Z : List ℕ) (i x : ℕ) → b ≡ valueOf P sk → i < P .l → x < P .n
     → lowIn P Z i x ≡ lowIn P (coinsStream P coins) i x
-    → keyNoiseIn P Z (shake (P .rate) (secretSeed P sk) (secretsLength P)) b i x ≡ keyNoise P (matrixSeed P (publicPart P sk)) (secretSeed P sk) coins i x
+    → keyNoiseIn P Z (shake (P .rate) (secretSeed P sk) (secretsLength P)) b i x ≡
+    keyNoise P (matrixSeed P (publicPart P sk)) (secretSeed P sk) coins i x
 unfolding keyNoiseIn keyNoise keySecret lowPart valueOf
 key-noise-is P W sk coins b Z i x eb hi hx low =
     let μ : List ℕ = matrixSeed P (publicPart P sk) in
@@ -122,8 +127,11 @@ noises-are P W sk b coins message eb =
     let same : (i x : ℕ) → i < P .l → x < n → lowIn P Z i x ≡ lowIn P S i x
     = low-there P W S (U ++ R) (stream-below P coins) (omega arith) in
     let of : List ℕ → List ℕ → List ℕ → List ℕ → List ℕ → List ℤ
-    = λ g z e h s. tabulate n (minus (plus (dot (P .l) n (keyNoiseIn P z g b) (ephemeralBy P coins h s)) (smallIn P e (P .l))) (dot (P .l) n (smallIn P e) (smallIn P g))) in
-    ap₂ (λ (g z : List ℕ). of g z (take K (drop L z)) (drop (L + K) z) (drop (L + K + H) z)) (take-at G Z (secretsLength P) lg) (drop-at G Z (secretsLength P) lg)
+    = λ g z e h s. tabulate n
+    (minus (plus (dot (P .l) n (keyNoiseIn P z g b) (ephemeralBy P coins h s)) (smallIn P e (P .l)))
+    (dot (P .l) n (smallIn P e) (smallIn P g))) in
+    ap₂ (λ (g z : List ℕ). of g z (take K (drop L z)) (drop (L + K) z) (drop (L + K + H) z)) (take-at G Z (secretsLength P) lg)
+    (drop-at G Z (secretsLength P) lg)
     ∙ ap₂ (λ (e h : List ℕ). of G Z e h (drop (L + K + H) Z)) mid high ∙ ap (of G Z U (drop (L + K) S)) rest
     ∙ tabulate-ext n _ _ (λ x h.
     ap (λ (v : ℤ). (v +ℤ smallIn P U (P .l) x) -ℤ dot (P .l) n (smallIn P U) (smallIn P G) x)
@@ -137,10 +145,12 @@ pub noise-made : (n : ℕ) (D M : Poly) (e : Poly) {zeros errors acc : List ℤ}
     → errors ≡ tabulate n (plus (ofInts zeros) M) → acc ≡ tabulate n (minus (ofInts (tabulate n e)) (ofInts errors))
     → ofInts acc x +ℤ D x ≡ (D x +ℤ e x) -ℤ M x
 noise-made n D M e {zeros} {errors} {acc} x h ez ee ea =
-    let at : (xs : List ℤ) (f : Poly) → xs ≡ tabulate n f → ofInts xs x ≡ f x = λ xs f q. ap (λ (xs : List ℤ). ofInts xs x) q ∙ ofInts-table n f x h in
+    let at : (xs : List ℤ) (f : Poly) → xs ≡ tabulate n f → ofInts xs x ≡ f x = λ xs f q. ap (λ (xs : List ℤ). ofInts xs x) q ∙
+    ofInts-table n f x h in
     let none : ofInts zeros x ≡ pos 0 = at zeros (λ _. pos 0) (ez ∙ sym (tabulate-constant n (pos 0))) in
     let sum : ofInts errors x ≡ M x = at errors (plus (ofInts zeros) M) ee ∙ ap (λ (z : ℤ). z +ℤ M x) none ∙ +ℤ-idl (M x) in
-    let rest : ofInts acc x ≡ e x -ℤ M x = at acc (minus (ofInts (tabulate n e)) (ofInts errors)) ea ∙ ap₂ _-ℤ_ (ofInts-table n e x h) sum in
+    let rest : ofInts acc x ≡ e x -ℤ M x = at acc (minus (ofInts (tabulate n e)) (ofInts errors)) ea ∙
+    ap₂ _-ℤ_ (ofInts-table n e x h) sum in
     ap (λ (z : ℤ). z +ℤ D x) rest ∙ +ℤ-comm (e x -ℤ M x) (D x) ∙ sym (+ℤ-assoc (D x) (e x) (negℤ (M x)))
 
 -- What `accumulate` leaves is the noise of the streams.
@@ -161,22 +171,28 @@ accumulated P b coins secrets stream a k h {zeros} {errors} {x} {rest} {acc} ea 
     let high : List ℕ = take (length stream - (a + k)) (drop (a + k) stream) in
     let last : List ℕ = take (length stream - (a + k + h)) (drop (a + k + h) stream) in
     let of : List ℕ → List ℕ → List ℕ → List ℤ
-    = λ m g s. tabulate n (minus (plus (dot (P .l) n (keyNoiseIn P stream secrets b) (ephemeralBy P coins g s)) (smallIn P m (P .l))) (dot (P .l) n (smallIn P m) (smallIn P secrets))) in
+    = λ m g s. tabulate n
+    (minus (plus (dot (P .l) n (keyNoiseIn P stream secrets b) (ephemeralBy P coins g s)) (smallIn P m (P .l)))
+    (dot (P .l) n (smallIn P m) (smallIn P secrets))) in
     let long : length errors ≡ n = ap length ee ∙ length-tabulate n _ in
     let less : rest ≡ tabulate n (minus (ofInts (tabulate n (smallIn P mid (P .l)))) (ofInts errors))
     = er ∙ ap₂ (λ (m : ℕ) (l : List ℤ). tabulate m (minus (ofInts l) (ofInts errors))) long ex in
     let both : a + k ≡ L + K = ap₂ _+_ ea ek in
     e ∙ tabulate-ext n _ _ (λ y l.
-    noise-made n (dot (P .l) n (keyNoiseIn P stream secrets b) (ephemeralBy P coins high last)) (dot (P .l) n (smallIn P mid) (smallIn P secrets)) (smallIn P mid (P .l)) y l ez ee less)
-    ∙ ap₂ (λ (m g : List ℕ). of m g last) (ap₂ (λ (i j : ℕ). take i (drop j stream)) (add-sub-cancel-left a k ∙ ek) ea) (take-rest (a + k) stream ∙ ap (λ (i : ℕ). drop i stream) both)
-    ∙ ap (of (take K (drop L stream)) (drop (L + K) stream)) (take-rest (a + k + h) stream ∙ ap (λ (i : ℕ). drop i stream) (ap₂ _+_ both eh))
+    noise-made n (dot (P .l) n (keyNoiseIn P stream secrets b) (ephemeralBy P coins high last))
+    (dot (P .l) n (smallIn P mid) (smallIn P secrets)) (smallIn P mid (P .l)) y l ez ee less)
+    ∙ ap₂ (λ (m g : List ℕ). of m g last) (ap₂ (λ (i j : ℕ). take i (drop j stream)) (add-sub-cancel-left a k ∙ ek) ea)
+    (take-rest (a + k) stream ∙ ap (λ (i : ℕ). drop i stream) both)
+    ∙ ap (of (take K (drop L stream)) (drop (L + K) stream))
+    (take-rest (a + k + h) stream ∙ ap (λ (i : ℕ). drop i stream) (ap₂ _+_ both eh))
 
 -- The streams one after the other.
 pub streams-split : (P : Params) (b coins streams : List ℕ) {s : ℕ} → s ≡ secretsLength P
     → tabulate (P .n) (noiseIn P b coins (take s streams) (take (length streams - s) (drop s streams))) ≡ noisesFrom P b coins streams
 unfolding noisesFrom
 streams-split P b coins streams {s} e =
-    ap₂ (λ (g z : List ℕ). tabulate (P .n) (noiseIn P b coins g z)) (ap (λ (i : ℕ). take i streams) e) (take-rest s streams ∙ ap (λ (i : ℕ). drop i streams) e)
+    ap₂ (λ (g z : List ℕ). tabulate (P .n) (noiseIn P b coins g z)) (ap (λ (i : ℕ). take i streams) e)
+    (take-rest s streams ∙ ap (λ (i : ℕ). drop i streams) e)
 
 -- ---- the stream of γ in the work area
 
@@ -192,17 +208,20 @@ stream-there P sk μ work {m} {s} em es e =
     let long : length (take (m + s) work) ≡ m + s = ap length e ∙ streams-long P μ γ ∙ sym (ap₂ _+_ em es) in
     let room : m ≤ length work = omega (arith, sym (length-take (m + s) work) ∙ long) in
     ap₂ (λ (i j : ℕ). take i (drop j work)) (sym es) (sym em) ∙ part-first m s work room ∙ ap (drop m) e
-    ∙ drop-at (shake (P .rate) μ (matrixLength P)) (shake (P .rate) γ (secretsLength P)) m (length-shake (P .rate) μ (matrixLength P) ∙ sym em)
+    ∙ drop-at (shake (P .rate) μ (matrixLength P)) (shake (P .rate) γ (secretsLength P)) m
+    (length-shake (P .rate) μ (matrixLength P) ∙ sym em)
 
 -- What is written behind it leaves it.
 pub stream-stays : (P : Params) (sk work ys : List ℕ) (k : ℕ) {m s : ℕ} → m ≡ matrixLength P → s ≡ secretsLength P → m + s ≤ length work
     → Kept P sk work → Kept P sk (patched (m + s) k ys work)
 stream-stays P sk work ys k {m} {s} em es room kept =
     let after : List ℕ = patched (m + s) k ys work in
-    let first : take (m + s) after ≡ take (m + s) work = take-at (take (m + s) work) (ys ++ drop k (drop (m + s) work)) (m + s) (length-take-le (m + s) work room) in
+    let first : take (m + s) after ≡ take (m + s) work = take-at (take (m + s) work) (ys ++ drop k (drop (m + s) work)) (m + s)
+    (length-take-le (m + s) work room) in
     let long : length (take (m + s) after) ≡ m + s = ap length first ∙ length-take-le (m + s) work room in
     let room' : m ≤ length after = omega (arith, sym (length-take (m + s) after) ∙ long) in
-    let part : (l : List ℕ) → take (secretsLength P) (drop (matrixLength P) l) ≡ take s (drop m l) = λ l. ap₂ (λ (i j : ℕ). take i (drop j l)) (sym es) (sym em) in
+    let part : (l : List ℕ) → take (secretsLength P) (drop (matrixLength P) l) ≡
+    take s (drop m l) = λ l. ap₂ (λ (i j : ℕ). take i (drop j l)) (sym es) (sym em) in
     part after ∙ part-first m s after room' ∙ ap (drop m) first ∙ sym (part-first m s work (omega (arith, room))) ∙ sym (part work) ∙ kept
 
 -- Behind it stands the stream of the coins, once that is written.
@@ -219,7 +238,8 @@ streams-written P sk coins message work {m} {s} {n} {ys} em es en room kept e =
     let first : take s (drop m after) ≡ shake (P .rate) (secretSeed P sk) (secretsLength P)
     = ap₂ (λ (i j : ℕ). take i (drop j after)) es em ∙ stream-stays P sk work ys k em es room kept in
     let second : take n (drop s (drop m after)) ≡ maskedStream P coins message
-    = ap (take n) (drop-drop s m after ∙ drop-at (take (m + s) work) (ys ++ rest) (m + s) (length-take-le (m + s) work room)) ∙ take-at ys rest n long ∙ e in
+    = ap (take n) (drop-drop s m after ∙ drop-at (take (m + s) work) (ys ++ rest) (m + s) (length-take-le (m + s) work room)) ∙
+    take-at ys rest n long ∙ e in
     ap (λ (i : ℕ). take i (drop m after)) both ∙ take-add s n (drop m after) ∙ ap₂ _++_ first second
 
 -- Both together are as long as their lengths say.

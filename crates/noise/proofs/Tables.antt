@@ -40,7 +40,8 @@ twice-table n f g small ex ey ez =
     = ap (λ (m : ℕ). tabulate m (λ k. residue 65536 (pos (2 ^ 1 * getD (tabulate n g) k 0)))) (length-tabulate n g)
     ∙ tabulate-ext n _ _ (λ k h. ap (λ (v : ℕ). residue 65536 (pos (2 * v))) (tabulate-at n g k 0 h) ∙ residue-small (half k)) in
     ez ∙ ap₂ added ex (ap (raised 1) ey ∙ high)
-    ∙ ap (λ (m : ℕ). tabulate m (λ k. residue 65536 (pos (getD (tabulate n f) k 0) +ℤ pos (getD (tabulate n (λ j. 2 * g j)) k 0)))) (length-tabulate n f)
+    ∙ ap (λ (m : ℕ). tabulate m (λ k. residue 65536 (pos (getD (tabulate n f) k 0) +ℤ pos (getD (tabulate n (λ j. 2 * g j)) k 0))))
+    (length-tabulate n f)
     ∙ tabulate-ext n _ _ (λ k h.
     ap₂ (λ (a b : ℕ). residue 65536 (pos (a + b))) (tabulate-at n f k 0 h) (tabulate-at n (λ j. 2 * g j) k 0 h) ∙ residue-small (small k))
 
@@ -55,7 +56,8 @@ unfolding combined
 combined-table P n f g h {w} {r} {low} ew er el =
     let at : (xs : List ℕ) (e : ℕ → ℕ) → xs ≡ tabulate n e → (k : ℕ) → k < n → getD xs k 0 ≡ e k
     = λ xs e q k l. ap (λ (xs : List ℕ). getD xs k 0) q ∙ tabulate-at n e k 0 l in
-    ap (λ (m : ℕ). tabulate m (λ k. (centred (2 ^ (P .t - 1)) (getD w k 0) +ℤ centred (P .p) (getD r k 0)) -ℤ pos (getD low k 0))) (ap length ew ∙ length-tabulate n f)
+    ap (λ (m : ℕ). tabulate m (λ k. (centred (2 ^ (P .t - 1)) (getD w k 0) +ℤ centred (P .p) (getD r k 0)) -ℤ pos (getD low k 0)))
+    (ap length ew ∙ length-tabulate n f)
     ∙ tabulate-ext n _ _ (λ k l.
     ap₂ (λ (a b : ℕ). (centred (2 ^ (P .t - 1)) a +ℤ centred (P .p) b) -ℤ pos (getD low k 0)) (at w f ew k l) (at r g er k l)
     ∙ ap (λ (v : ℕ). (centred (2 ^ (P .t - 1)) (f k) +ℤ centred (P .p) (g k)) -ℤ pos v) (at low h el k l))

@@ -1,7 +1,7 @@
 -- Laws of the product that `poly::multiply_add` adds up four rows at a time, modulo 2^16. Assumes nothing.
 use mathlib.Core.Path.{_≡_, refl, sym, ap, _∙_}
 use mathlib.Core.List.{List, _++_}
-use Prim.Native.Nat.{ℕ, _+_, _-_, _*_, _≤_, _<_, zero-le, suc-le-suc}
+use Prim.Native.Nat.{ℕ, _+_, _-_, _*_, _%_, _≤_, _<_, zero-le, suc-le-suc}
 use native.Mathlib.Nat.{mul-le-mul}
 use native.Mathlib.Numerals.{towards-suc}
 use native.Mathlib.Omega.{arith}
@@ -17,6 +17,7 @@ use Rattle.bits.specs.Bits.{Below}
 use Rattle.ring.specs.Integers.{Cong, residue}
 use Rattle.ring.specs.Poly.{Poly, sum, shifted, mul, plus, ofNats, residues}
 use Rattle.ring.specs.Terms.{addTerm, addFour, doubled}
+use Rattle.ring.specs.Coefficients.{Factors, withProduct}
 
 -- From place n − i on stand the coefficients of X^i times b.
 pub doubled-at : (b : List ℕ) (i k : ℕ) → i < length b → k < length b
@@ -53,16 +54,10 @@ row-at n b row rest l e j k hj hk =
     rw (← l)
     (cong-trans (cong-of-eq (ap pos front)) (doubled-at b j k (omega arith) (omega arith)))
 
--- The lengths of such a row in its room of 1024 entries, and of the part that four of its shifts reach.
+-- The length of such a row in its room of 1024 entries.
 pub row-long : (n : ℕ) (row room : List ℕ) → length row ≡ 2 * n → length room ≡ 1024 → n ≤ 512
     → length (row ++ drop (2 * n) room) ≡ 1024
 row-long n row room l r h = simp (length-append, length-drop) (omega arith)
-
-pub part-long : (n i : ℕ) (row : List ℕ) → i + 4 ≤ n → n ≤ 512 → length row ≡ 1024
-    → length (take (2 * n - i - (n - i - 3)) (drop (n - i - 3) row)) ≡ n + 3
-part-long n i row h s l =
-    let whole : 2 * n - i - (n - i - 3) ≡ n + 3 = omega arith in
-    rw whole (simp (length-take, length-drop) (omega arith))
 
 -- f and the first i rows of the product of a and b.
 unfoldable pub rows : ℕ → Poly → Poly → Poly → ℕ → Poly
@@ -135,3 +130,60 @@ four-more n f xs row acc b i room h e =
     (met (i + 2) (k + 1) k hk (omega arith) (omega arith) (omega arith)))
     (met (i + 3) k k hk (omega arith) (omega arith) (omega arith))
     ∙ ap (residue 65536) (sym (rows-four n f (ofNats xs) b i k)))
+
+-- What `multiply_add` carries: the row has the factor b in all its shifts, in a room of 1024 entries, and after i coefficients of a,
+-- four a turn, their rows are added.
+pub record Added (acc₀ a b row : List ℕ) (i : ℕ) (acc : List ℕ) : Type 0 where
+  pub factors : Factors acc₀ a b
+  pub room : length row ≡ 1024
+  pub shifts : (j k : ℕ) → j < length acc₀ → k < length acc₀
+      → Cong 65536 (pos (getD row (length acc₀ - j + k) 0)) (shifted (length acc₀) (ofNats b) j k)
+  pub within : i ≤ length acc₀
+  pub fours : i % 4 ≡ 0
+  pub long : length acc ≡ length acc₀
+  pub are : acc ≡ residues 65536 (length acc₀) (rows (length acc₀) (ofNats acc₀) (ofNats a) (ofNats b) i)
+
+module _ {acc₀ a b : List ℕ} where
+  pub added-begun : (room : List ℕ) {row : List ℕ} → Factors acc₀ a b → Below 65536 acc₀ → row ≡ doubled b → length row ≡ 2 * length acc₀
+      → length room ≡ 1024
+      → Added acc₀ a b (row ++ drop (2 * length acc₀) room) 0 acc₀
+  added-begun room {row} both words e twice wide = record {
+    factors = both;
+    room = row-long (length acc₀) row room twice wide (both .short);
+    shifts = row-at (length acc₀) b row (drop (2 * length acc₀) room) (both .second) e;
+    within = zero-le;
+    fours = refl;
+    long = refl;
+    are = rows-none (length acc₀) acc₀ (ofNats a) (ofNats b) words refl;
+  }
+
+  module _ {row : List ℕ} {i : ℕ} {acc : List ℕ} (h : Added acc₀ a b row i acc) where
+    -- The part of the row that a turn reads, and the turn's room.
+    abbrev part : List ℕ
+    part = take (2 * length acc₀ - i - (length acc₀ - i - 3)) (drop (length acc₀ - i - 3) row)
+
+    turn-room : i < length acc₀ → i + 4 ≤ length acc₀
+    turn-room in-it = omega (arith, h .fours, h .factors .fours)
+
+    -- One turn more.
+    pub added-more : {next : List ℕ} → i < length acc₀ → length next ≡ length acc
+        → next ≡ tabulate (length acc) (addFour acc part (getD a i 0) (getD a (i + 1) 0) (getD a (i + 2) 0) (getD a (i + 3) 0))
+        → Added acc₀ a b row (i + 4) next
+    added-more in-it kept e = record {
+      factors = h .factors;
+      room = h .room;
+      shifts = h .shifts;
+      within = turn-room in-it;
+      fours = omega (arith, h .fours);
+      long = kept ∙ h .long;
+      are = e ∙ rw (h .long)
+          (four-more (length acc₀) (ofNats acc₀) a row acc (ofNats b) i (turn-room in-it) (h .shifts) (h .are));
+    }
+
+    -- After the last turn.
+    pub added-all : length acc₀ ≤ i → acc ≡ withProduct acc₀ a b
+    added-all last =
+        let all : i ≡ length acc₀ = omega (arith, h .within) in
+        h .are
+        ∙ ap (λ (m : ℕ). residues 65536 (length acc₀) (rows (length acc₀) (ofNats acc₀) (ofNats a) (ofNats b) m)) all
+        ∙ rows-all 65536 (length acc₀) (ofNats acc₀) (ofNats a) (ofNats b)

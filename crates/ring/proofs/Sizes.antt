@@ -4,7 +4,8 @@ use mathlib.Core.Path.{_≡_, refl, sym, ap, ap₂, _∙_}
 use mathlib.Core.Bool.{Bool, true, false, _&&_}
 use mathlib.Core.List.{List, [], _∷_, _++_}
 use Prim.Native.Nat.{ℕ, zero, suc, _+_, _*_, _^_, _≤_, _<_, max, zero-le, suc-le-suc}
-use native.Mathlib.Nat.{zero-add, lt-of-le-of-lt, le-trans, le-refl, not-suc-le-zero, le-of-suc-le-suc, mul-le-mul, mul-le-mul-right, le-add-left, add-assoc, max-zero, le-max-left, le-max-right, max-le}
+use native.Mathlib.Nat.{zero-add, lt-of-le-of-lt, le-trans, le-refl, not-suc-le-zero, le-of-suc-le-suc, mul-le-mul, mul-le-mul-right}
+use native.Mathlib.Nat.{le-add-left, add-assoc, max-zero, le-max-left, le-max-right, max-le}
 use native.Mathlib.Omega.{arith}
 use borrow.Author.Tests.{ltb-true, lt-ltb, le-ltb}
 use lib.Dec.{T, ltb}
@@ -97,10 +98,12 @@ largest-append (x ∷ xs) ys = ap (max (natAbs x)) (largest-append xs ys) ∙ to
     together a b c = omega arith
 
 -- One entry more.
-pub largest-more : (xs : List ℤ) (i : ℕ) (d : ℤ) → i < length xs → largest (take (suc i) xs) ≡ max (largest (take i xs)) (natAbs (getD xs i d))
+pub largest-more : (xs : List ℤ) (i : ℕ) (d : ℤ) → i < length xs → largest (take (suc i) xs) ≡
+    max (largest (take i xs)) (natAbs (getD xs i d))
 unfolding largest
 largest-more xs i d h =
-    ap largest (take-suc xs i d h) ∙ largest-append (take i xs) (getD xs i d ∷ []) ∙ ap (max (largest (take i xs))) (max-zero (natAbs (getD xs i d)))
+    ap largest (take-suc xs i d h) ∙ largest-append (take i xs) (getD xs i d ∷ []) ∙
+    ap (max (largest (take i xs))) (max-zero (natAbs (getD xs i d)))
 
 -- No entry is larger.
 pub le-largest : (xs : List ℤ) (i : ℕ) → natAbs (getD xs i (pos 0)) ≤ largest xs
@@ -216,7 +219,8 @@ between-size : (b : ℕ) (x : ℤ) → between (negsuc b) (pos (suc b)) x ≡ lt
 between-size b (pos n) = refl
 between-size b (negsuc n) =
     and-true (ltb n b)
-    ∙ sides b n (λ h. le-ltb n b h ∙ sym (le-ltb (suc n) (suc b) (suc-le-suc h))) (λ h. lt-ltb n b h ∙ sym (lt-ltb (suc n) (suc b) (suc-le-suc h)))
+    ∙ sides b n (λ h. le-ltb n b h ∙ sym (le-ltb (suc n) (suc b) (suc-le-suc h)))
+    (λ h. lt-ltb n b h ∙ sym (lt-ltb (suc n) (suc b) (suc-le-suc h)))
 
 -- All lie strictly between −m and m, m = b + 1, where the largest absolute value is below m.
 pub all-between-size : (b : ℕ) (xs : List ℤ) → allBetween (negsuc b) (pos (suc b)) xs ≡ ltb (largest xs) (suc b)

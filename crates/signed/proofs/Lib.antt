@@ -1,2 +1,3 @@
 -- The laws that the proofs of `signed` share.
 pub mod Reversal
+pub mod Summing

@@ -1,27 +1,38 @@
 -- `bits::load` meets its contract: after i turns the first i coefficients are loaded.
 -- Assumes nothing.
 use mathlib.Core.Path.{_≡_, refl, sym, _∙_}
-use Prim.Native.Nat.{_+_, _*_, _/_, _%_, _^_, _-_, _≤_}
+use Prim.Native.Nat.{_+_, _*_, _/_, _%_, _^_, _-_, ℕ}
 use native.Mathlib.Omega.{arith}
 use borrow.Author.Needs.{needs}
 use denote.Ref.{now}
-use lib.ListN.{length, getD, length-set}
+use lib.ListN.{length, getD}
 use Rattle.keccak.specs.Lists.{value}
 use Rattle.bits.proofs.Digits.{digits-tabulate, pair-digit, value-at}
-use Rattle.bits.proofs.Filling.{filled, filled-none, filled-more, filled-all}
 use Rattle.bits.specs.Bits.{Below, unpack}
+use mathlib.Core.List.{List}
+use Rattle.bits.proofs.Filling.{Filling, filling-begun, filling-more, filling-all}
 use Rattle.bits.proofs.load.Statement.{statement}
 use Rattle.bits.proofs.load.Tie as tie
 
+-- The coefficients that the bytes have.
+abbrev coefficients : List ℕ → ℕ → ℕ
+coefficients src i = value 8 src / 2 ^ (16 * i) % 2 ^ 16
+
 abbrev Inv-loop : tie.InvT-loop
-Inv-loop src dst₀ i₀ dst i =
-    (i ≤ length dst₀) × (length dst ≡ length dst₀) × (dst ≡ filled i (λ i. value 8 src / 2 ^ (16 * i) % 2 ^ 16) dst₀)
+Inv-loop src dst₀ i₀ dst i = Filling (coefficients src) dst₀ i dst
 
 abbrev μ-loop : tie.MeasureT-loop
 μ-loop src dst₀ i₀ dst i = length dst₀ - i
 
+-- The places of the code that the answers name.
+abbrev Start : Type 0
+Start = tie.Start Inv-loop μ-loop
+
+abbrev Turn : Type 0
+Turn = tie.At-loop Inv-loop μ-loop
+
 loop-holds : tie.Need-loop-holds Inv-loop μ-loop
-loop-holds c = (omega arith, refl, filled-none _ _)
+loop-holds c = filling-begun
 
 mul-pair : tie.Need-mul-pair Inv-loop μ-loop
 mul-pair c = omega arith
@@ -55,28 +66,26 @@ loop-less c = omega arith
 
 loop-again : tie.Need-loop-again Inv-loop μ-loop
 loop-again c =
-    let h = c .before .before .before .before .loop in
-    let a = c .before .before .before .before .before .before .before .args in
-    let src = now (a .src) in
-    let bytes : Below 256 src = λ i. c .before .shared-slice-known3 .given i .fits in
-    let low : getD src (2 * h .i) 0 ≡ value 8 src / 2 ^ (8 * (2 * h .i)) % 2 ^ 8 = value-at 8 src (2 * h .i) bytes in
-    let high : getD src (2 * h .i + 1) 0 ≡ value 8 src / 2 ^ (8 * (2 * h .i + 1)) % 2 ^ 8 = value-at 8 src (2 * h .i + 1) bytes in (
-      omega arith,
-      simp length-set (h .inv .1),
-      filled-more (h .i) (λ i. value 8 src / 2 ^ (16 * i) % 2 ^ 16) (now (a .dst)) 0 (omega arith) (h .inv .2)
-          (c .pair .ensures ∙ rw (low, high) (sym (pair-digit (value 8 src) (h .i)))),
-    )
+    let start : Start = search in
+    let turn : Turn = search in
+    let known : tie.After-shared-slice-known3 Inv-loop μ-loop = search in
+    let src = now (start .args .src) in
+    let i = turn .loop .i in
+    let bytes : Below 256 src = λ i. known .shared-slice-known3 .given i .fits in
+    let low : getD src (2 * i) 0 ≡ value 8 src / 2 ^ (8 * (2 * i)) % 2 ^ 8 = value-at 8 src (2 * i) bytes in
+    let high : getD src (2 * i + 1) 0 ≡ value 8 src / 2 ^ (8 * (2 * i + 1)) % 2 ^ 8 = value-at 8 src (2 * i + 1) bytes in
+    filling-more 0 (turn .loop .inv) (omega arith) (c .pair .ensures ∙ rw (low, high) (sym (pair-digit (value 8 src) i)))
 
 same-length : tie.Need-same-length Inv-loop μ-loop
-same-length c = c .before .loop .inv .1
+same-length c = search needs
 
 returns : tie.Need-returns Inv-loop μ-loop
 unfolding unpack
 returns c =
-    let h = c .before .loop in
-    let a = c .before .before .before .before .args in
-    filled-all (h .i) (length (now (a .dst))) (λ i. value 8 (now (a .src)) / 2 ^ (16 * i) % 2 ^ 16) (now (a .dst)) refl (omega arith) (omega arith) (h .inv .2)
-    ∙ sym (digits-tabulate 16 (length (now (a .dst))) (value 8 (now (a .src))))
+    let start : Start = search in
+    let turn : Turn = search in
+    filling-all (turn .loop .inv) refl (omega arith)
+    ∙ sym (digits-tabulate 16 (length (now (start .args .dst))) (value 8 (now (start .args .src))))
 
 pub load-spec : {M : Type 1} → statement M
 load-spec =

@@ -1,26 +1,32 @@
 -- `bits::reduce` meets its contract: after k turns the first k coefficients are reduced.
 -- Assumes nothing.
 use mathlib.Core.List.{map}
-use mathlib.Core.Path.{_≡_, refl, sym, ap, _∙_}
-use Prim.Native.Nat.{ℕ, _%_, _^_, _-_, _≤_}
+use mathlib.Core.Path.{refl, sym, ap, _∙_}
+use Prim.Native.Nat.{ℕ, _%_, _^_, _-_}
 use native.Mathlib.Omega.{arith}
 use borrow.Author.Needs.{needs}
 use denote.Ref.{now}
-use lib.ListN.{length, getD, length-set}
-use Rattle.bits.proofs.Filling.{filled, filled-none, filled-more, filled-at, filled-all, tabulate-entries, map-tabulate}
+use lib.ListN.{length, getD}
+use Rattle.bits.proofs.Filling.{tabulate-entries, map-tabulate, Filling, filling-begun, filling-more, filling-at, filling-all}
 use Rattle.bits.specs.Bits.{lowBits}
 use Rattle.bits.proofs.reduce.Statement.{statement}
 use Rattle.bits.proofs.reduce.Tie as tie
 
 abbrev Inv-loop : tie.InvT-loop
-Inv-loop xs₀ w k₀ xs k =
-    (k ≤ length xs₀) × (length xs ≡ length xs₀) × (xs ≡ filled k (λ j. getD xs₀ j 0 % 2 ^ w) xs₀)
+Inv-loop xs₀ w k₀ xs k = Filling (λ j. getD xs₀ j 0 % 2 ^ w) xs₀ k xs
 
 abbrev μ-loop : tie.MeasureT-loop
 μ-loop xs₀ w k₀ xs k = length xs₀ - k
 
+-- The places of the code that the answers name.
+abbrev Start : Type 0
+Start = tie.Start Inv-loop μ-loop
+
+abbrev Turn : Type 0
+Turn = tie.At-loop Inv-loop μ-loop
+
 loop-holds : tie.Need-loop-holds Inv-loop μ-loop
-loop-holds c = (omega arith, refl, filled-none _ _)
+loop-holds c = filling-begun
 
 mul-low-bits : tie.Need-mul-low-bits Inv-loop μ-loop
 mul-low-bits c = omega arith
@@ -29,7 +35,7 @@ slice-read-low-bits : tie.Need-slice-read-low-bits Inv-loop μ-loop
 slice-read-low-bits c = omega arith
 
 cast-low-bits : tie.Need-cast-low-bits Inv-loop μ-loop
-cast-low-bits c = omega (arith, c .slice-known2 .given (c .before .before .loop .k))
+cast-low-bits c = let turn : Turn = search in omega (arith, c .slice-known2 .given (turn .loop .k))
 
 low-bits-requires : tie.Need-low-bits-requires Inv-loop μ-loop
 low-bits-requires c κs = search needs
@@ -48,24 +54,23 @@ loop-less c = omega arith
 
 loop-again : tie.Need-loop-again Inv-loop μ-loop
 loop-again c =
-    let h = c .before .before .before .loop in
-    let a = c .before .before .before .before .before .args in (
-      omega arith,
-      simp length-set (h .inv .1),
-      filled-more (h .k) (λ j. getD (now (a .xs)) j 0 % 2 ^ a .w) (now (a .xs)) 0 (omega arith) (h .inv .2) (c .low-bits .ensures ∙ ap (λ (m : ℕ). m % 2 ^ a .w) (filled-at (h .k) (h .k) _ (now (a .xs)) 0 (omega arith) (h .inv .2))),
-    )
+    let start : Start = search in
+    let turn : Turn = search in
+    filling-more 0 (turn .loop .inv) (omega arith)
+    (c .low-bits .ensures ∙ ap (λ (m : ℕ). m % 2 ^ start .args .w) (filling-at 0 (turn .loop .inv) (omega arith)))
 
 same-length : tie.Need-same-length Inv-loop μ-loop
-same-length c = c .before .loop .inv .1
+same-length c = search needs
 
 returns : tie.Need-returns Inv-loop μ-loop
 unfolding lowBits
 returns c =
-    let h = c .before .loop in
-    let a = c .before .before .before .args in
-    let xs = now (a .xs) in
-    filled-all (h .k) (length xs) (λ j. getD xs j 0 % 2 ^ a .w) xs refl (omega arith) (omega arith) (h .inv .2)
-    ∙ sym (map-tabulate (λ (x : ℕ). x % 2 ^ a .w) (length xs) (λ j. getD xs j 0)) ∙ ap (map (λ (x : ℕ). x % 2 ^ a .w)) (tabulate-entries xs 0)
+    let start : Start = search in
+    let turn : Turn = search in
+    let low : ℕ → ℕ = λ x. x % 2 ^ start .args .w in
+    let xs = now (start .args .xs) in
+    filling-all (turn .loop .inv) refl (omega arith)
+    ∙ sym (map-tabulate low (length xs) (λ j. getD xs j 0)) ∙ ap (map low) (tabulate-entries xs 0)
 
 pub reduce-spec : {M : Type 1} → statement M
 reduce-spec =

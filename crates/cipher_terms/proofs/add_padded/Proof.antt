@@ -21,9 +21,10 @@ same-length c = search needs
 
 returns : tie.Need-returns
 returns c =
-    let a = c .before .before .before .before .before .before .before .args in
-    let e = c .before .before .before .xor-into .ensures in
-    rw e (xor-end (now (a .dst)) (now (a .message)) 1 (c .before .before .before .before .before .before .before .pre))
+    let start : tie.Start = search in
+    let after-xor-into : tie.After-xor-into = search in
+    let a = start .args in
+    rw (after-xor-into .xor-into .ensures) (xor-end (now (a .dst)) (now (a .message)) 1 (start .pre))
 
 pub add-padded-spec : {M : Type 1} → statement M
 add-padded-spec =

@@ -17,14 +17,18 @@ array-borrow-prefix-w c = search needs
 
 slice-aggregate-decompress-into : tie.Need-slice-aggregate-decompress-into
 slice-aggregate-decompress-into c =
-    let zeros : length (c .before .zeros .result) ≡ 1536 = search needs in
-    let pre = c .before .before .before .before .before .pre in
+    let start : tie.Start = search in
+    let after-zeros : tie.After-zeros = search in
+    let zeros : length (after-zeros .zeros .result) ≡ 1536 = search needs in
+    let pre = start .pre in
     simp length-take (omega (arith, pre .vector-long, pre .well .vector))
 
 decompress-into-requires : tie.Need-decompress-into-requires
 decompress-into-requires c κs =
-    let zeros : length (c .before .before .zeros .result) ≡ 1536 = search needs in
-    let pre = c .before .before .before .before .before .before .pre in
+    let start : tie.Start = search in
+    let after-zeros : tie.After-zeros = search in
+    let zeros : length (after-zeros .zeros .result) ≡ 1536 = search needs in
+    let pre = start .pre in
     (pre, simp length-take (omega (arith, pre .vector-long, pre .well .vector)))
 
 same-length : tie.Need-same-length

@@ -8,21 +8,24 @@ use Rattle.cipher_terms.proofs.entry.Tie as tie
 
 mul-length-of : tie.Need-mul-length-of
 mul-length-of c =
-    let pre = c .before .pre in
+    let start : tie.Start = search in
+    let pre = start .pre in
     let inside = cell (pre .1) (pre .2) in
     let few = square (pre .0 .few) in
     omega (arith, inside, few)
 
 add-length-of : tie.Need-add-length-of
 add-length-of c =
-    let pre = c .before .pre in
+    let start : tie.Start = search in
+    let pre = start .pre in
     let inside = cell (pre .1) (pre .2) in
     let few = square (pre .0 .few) in
     omega (arith, inside, few)
 
 length-of-requires : tie.Need-length-of-requires
 length-of-requires c κs =
-    let pre = c .before .pre in
+    let start : tie.Start = search in
+    let pre = start .pre in
     let inside = cell (pre .1) (pre .2) in
     let few = square (pre .0 .few) in
     (pre .0, omega (arith, inside, few), pre .0 .word)

@@ -24,43 +24,61 @@ array-borrow-prefix-h : tie.Need-array-borrow-prefix-h
 array-borrow-prefix-h c = search needs
 
 -- The parts that `first` fills.
-room-part : (c : tie.After-polynomial) → length (take (c .before .before .before .before .before .args .p .n) (c .polynomial .result)) ≡ c .before .before .before .before .before .args .p .n
+room-part : (c : tie.After-polynomial) →
+    let start : tie.Start = search in
+    length (take (start .args .p .n) (c .polynomial .result)) ≡ start .args .p .n
 room-part c =
+    let start : tie.Start = search in
     let room : length (c .polynomial .result) ≡ 512 = search needs in
-    simp length-take (omega (arith, c .before .before .before .before .before .pre .well .short))
+    simp length-take (omega (arith, start .pre .well .short))
 
 secret-part : (c : tie.Start) → length (take (c .args .p .n) (now (c .args .s))) ≡ c .args .p .n
 secret-part c = simp length-take (omega (arith, begins (c .args .p) (c .pre .well), c .pre .secret-long))
 
 -- s once its first polynomial is written.
 abbrev begun : tie.After-first → List ℕ
-begun c = c .first .last .1 .1 .1 .1 .0 ++ drop (c .before .before .before .before .before .before .before .before .args .p .n) (now (c .before .before .before .before .before .before .before .before .args .s))
+begun c =
+    let start : tie.Start = search in
+    c .first .last .1 .1 .1 .1 .0 ++ drop (start .args .p .n) (now (start .args .s))
 
-first-size : (c : tie.After-first) → length (c .first .last .1 .1 .1 .1 .0) ≡ c .before .before .before .before .before .before .before .before .args .p .n
-first-size c = c .first .kept .1 .1 .1 .1 .0 ∙ secret-part (c .before .before .before .before .before .before .before .before)
+first-size : (c : tie.After-first) →
+    let start : tie.Start = search in
+    length (c .first .last .1 .1 .1 .1 .0) ≡ start .args .p .n
+first-size c = c .first .kept .1 .1 .1 .1 .0 ∙ secret-part (search)
 
-begun-size : (c : tie.After-first) → length (begun c) ≡ c .before .before .before .before .before .before .before .before .args .p .l * c .before .before .before .before .before .before .before .before .args .p .n
+begun-size : (c : tie.After-first) →
+    let start : tie.Start = search in
+    length (begun c) ≡ start .args .p .l * start .args .p .n
 begun-size c =
-    let p = c .before .before .before .before .before .before .before .before .args .p in
-    begun-length (p .n) (c .first .last .1 .1 .1 .1 .0) (now (c .before .before .before .before .before .before .before .before .args .s)) (first-size c) (c .before .before .before .before .before .before .before .before .pre .secret-long) (begins p (c .before .before .before .before .before .before .before .before .pre .well))
+    let start : tie.Start = search in
+    let p = start .args .p in
+    begun-length (p .n) (c .first .last .1 .1 .1 .1 .0) (now (start .args .s)) (first-size c) (start .pre .secret-long)
+    (begins p (start .pre .well))
 
-rest-part : (c : tie.After-first) → length (take (length (begun c) - c .before .before .before .before .before .before .before .before .args .p .n) (drop (c .before .before .before .before .before .before .before .before .args .p .n) (begun c))) ≡ (c .before .before .before .before .before .before .before .before .args .p .l - 1) * c .before .before .before .before .before .before .before .before .args .p .n
+rest-part : (c : tie.After-first) →
+    let start : tie.Start = search in
+    length (take (length (begun c) - start .args .p .n) (drop (start .args .p .n) (begun c))) ≡ (start .args .p .l - 1) * start .args .p .n
 rest-part c =
-    let p = c .before .before .before .before .before .before .before .before .args .p in
-    let W = c .before .before .before .before .before .before .before .before .pre .well in
+    let start : tie.Start = search in
+    let p = start .args .p in
+    let W = start .pre .well in
     simp (length-take, length-drop) (rw (sym (rest-size (p .l) (p .n) (W .some-polynomials))) (omega (arith, begins p W, begun-size c)))
 
 slice-aggregate-first : tie.Need-slice-aggregate-first
-slice-aggregate-first c = sym (room-part (c .before))
+slice-aggregate-first c = sym (room-part (search))
 
 slice-relend-prefix-first : tie.Need-slice-relend-prefix-first
-slice-relend-prefix-first c = omega (arith, begins (c .before .before .before .before .before .before .args .p) (c .before .before .before .before .before .before .pre .well), c .before .before .before .before .before .before .pre .secret-long)
+slice-relend-prefix-first c =
+    let start : tie.Start = search in
+    omega (arith, begins (start .args .p) (start .pre .well), start .pre .secret-long)
 
 slice-aggregate-first-2 : tie.Need-slice-aggregate-first-2
-slice-aggregate-first-2 c = sym (secret-part (c .before .before .before .before .before .before .before))
+slice-aggregate-first-2 c = sym (secret-part (search))
 
 first-requires : tie.Need-first-requires
-first-requires c κs = (c .before .before .before .before .before .before .before .pre .well, c .before .before .before .before .before .before .before .pre .coins-long, c .before .before .before .before .before .before .before .pre .high-there, room-part (c .before .before), secret-part (c .before .before .before .before .before .before .before))
+first-requires c κs =
+    let start : tie.Start = search in
+    (start .pre .well, start .pre .coins-long, start .pre .high-there, room-part (search), secret-part start)
 
 width-requires : tie.Need-width-requires
 width-requires c κs = search needs
@@ -69,30 +87,44 @@ mul-small : tie.Need-mul-small
 mul-small c = search needs
 
 sub-small : tie.Need-sub-small
-sub-small c = omega (arith, begins (c .before .before .before .before .before .before .before .before .before .before .before .before .args .p) (c .before .before .before .before .before .before .before .before .before .before .before .before .pre .well), begun-size (c .before .before .before .before))
+sub-small c =
+    let start : tie.Start = search in
+    omega (arith, begins (start .args .p) (start .pre .well), begun-size (search))
 
 part-small-start : tie.Need-part-small-start
-part-small-start c = omega (arith, begins (c .before .before .before .before .before .before .before .before .before .before .before .before .args .p) (c .before .before .before .before .before .before .before .before .before .before .before .before .pre .well), begun-size (c .before .before .before .before))
+part-small-start c =
+    let start : tie.Start = search in
+    omega (arith, begins (start .args .p) (start .pre .well), begun-size (search))
 
 part-small-end : tie.Need-part-small-end
 part-small-end c = search needs
 
 small-requires : tie.Need-small-requires
 small-requires c κs =
-    let p = c .before .before .before .before .before .before .before .before .before .before .before .before .before .args .p in
-    let W = c .before .before .before .before .before .before .before .before .before .before .before .before .before .pre .well in
-    (rw (c .before .width .ensures) (width-bound p W), rw (c .before .width .ensures) (reads p W (p .l - 1) (width p) (rest-part (c .before .before .before .before .before)) (c .before .before .before .before .before .before .before .before .before .before .before .before .before .pre .rest-there)))
+    let start : tie.Start = search in
+    let after-width : tie.After-width = search in
+    let p = start .args .p in
+    let W = start .pre .well in (
+      rw (after-width .width .ensures) (width-bound p W),
+      rw (after-width .width .ensures) (reads p W (p .l - 1) (width p) (rest-part (search)) (start .pre .rest-there)),
+    )
 
 same-length : tie.Need-same-length
 same-length c = search needs
 
 returns : tie.Need-returns
 returns c =
-    let p = c .before .before .before .before .before .before .before .before .before .before .before .before .before .before .before .before .args .p in
-    let rest = now (c .before .before .before .before .before .before .before .before .before .before .before .before .before .before .before .before .args .rest) in
-    patched-rest (p .n) (c .before .before .small .last .1 .1 .1 .0) (begun (c .before .before .before .before .before .before .before .before))
-    ∙ ap₂ _++_ (take-at (c .before .before .before .before .before .before .before .before .first .last .1 .1 .1 .1 .0) (drop (p .n) (now (c .before .before .before .before .before .before .before .before .before .before .before .before .before .before .before .before .args .s))) (p .n) (first-size (c .before .before .before .before .before .before .before .before)) ∙ c .before .before .before .before .before .before .before .before .first .ensures)
-    (c .before .before .small .ensures ∙ ap₂ (λ (w m : ℕ). centredWords (p .p) (unpack w m rest)) (c .before .before .before .before .width .ensures) (rest-part (c .before .before .before .before .before .before .before .before))
+    let start : tie.Start = search in
+    let after-first : tie.After-first = search in
+    let after-width : tie.After-width = search in
+    let after-small : tie.After-small = search in
+    let p = start .args .p in
+    let rest = now (start .args .rest) in
+    patched-rest (p .n) (after-small .small .last .1 .1 .1 .0) (begun after-first)
+    ∙ ap₂ _++_ (take-at (after-first .first .last .1 .1 .1 .1 .0) (drop (p .n) (now (start .args .s))) (p .n) (first-size after-first) ∙
+    after-first .first .ensures)
+    (after-small .small .ensures ∙ ap₂ (λ (w m : ℕ). centredWords (p .p) (unpack w m rest)) (after-width .width .ensures)
+    (rest-part after-first)
     ∙ small-vector (p .l - 1) (p .n) (width p) (p .p) rest)
 
 pub ephemeral-spec : {M : Type 1} → statement M

@@ -21,16 +21,22 @@ same-length c = search needs
 
 returns : tie.Need-returns
 returns c =
-    let a = c .before .before .before .before .before .before .before .before .before .before .args in
-    c .before .before .column .ensures ∙ factor-column (a .p) (now (a .pk)) (matrixIn (a .p) (now (a .rows))) (lowIn (a .p) (now (a .low))) (a .j) (omega arith)
+    let start : tie.Start = search in
+    let after-column : tie.After-column = search in
+    let a = start .args in
+    after-column .column .ensures ∙ factor-column (a .p) (now (a .pk)) (matrixIn (a .p) (now (a .rows))) (lowIn (a .p) (now (a .low)))
+    (a .j) (omega arith)
 
 same-length-2 : tie.Need-same-length-2
 same-length-2 c = search needs
 
 returns-2 : tie.Need-returns-2
 returns-2 c =
-    let a = c .before .before .before .before .before .before .before .before .before .before .args in
-    c .before .before .decompress .ensures ∙ factor-last (a .p) (now (a .pk)) (matrixIn (a .p) (now (a .rows))) (lowIn (a .p) (now (a .low))) (a .j) (omega arith)
+    let start : tie.Start = search in
+    let after-decompress : tie.After-decompress = search in
+    let a = start .args in
+    after-decompress .decompress .ensures ∙ factor-last (a .p) (now (a .pk)) (matrixIn (a .p) (now (a .rows)))
+    (lowIn (a .p) (now (a .low))) (a .j) (omega arith)
 
 pub factor-spec : {M : Type 1} → statement M
 factor-spec =

@@ -15,6 +15,12 @@ use borrow.Author.Needs.{needs}
 use Rattle.cipher_terms.proofs.first.Statement.{statement}
 use Rattle.cipher_terms.proofs.first.Tie as tie
 
+-- From a place back to one that is far before it.
+abbrev start-of-unpack : tie.After-unpack → tie.Start
+start-of-unpack c = search
+
+ruleset places = (start-of-unpack)
+
 unpack-requires : tie.Need-unpack-requires
 unpack-requires c κs = search needs
 
@@ -26,9 +32,13 @@ sub-unpack c = search needs
 
 unpack-requires-2 : tie.Need-unpack-requires-2
 unpack-requires-2 c κs =
-    let pre = c .before .before .before .before .before .before .before .before .before .before .pre in
-    let p = c .before .before .before .before .before .before .before .before .before .before .args .p in
-    (rw (c .before .width .ensures) (omega (arith, width-bound p (pre .0))), rw (c .before .width .ensures) (reads p (pre .0) 1 (highWidth p) (pre .3 ∙ sym (one-mul (p .n))) (pre .2)))
+    let start : tie.Start = search in
+    let after-width : tie.After-width = search in
+    let pre = start .pre in
+    let p = start .args .p in (
+      rw (after-width .width .ensures) (omega (arith, width-bound p (pre .0))),
+      rw (after-width .width .ensures) (reads p (pre .0) 1 (highWidth p) (pre .3 ∙ sym (one-mul (p .n))) (pre .2)),
+    )
 
 raise-requires : tie.Need-raise-requires
 raise-requires c κs = search needs
@@ -47,14 +57,21 @@ same-length-2 c = search needs
 
 returns : tie.Need-returns
 returns c =
-    let a = c .before .before .before .before .before .before .before .before .before .before .before .before .before .before .before .before .before .before .before .before .before .before .before .before .before .before .args in
-    let pre = c .before .before .before .before .before .before .before .before .before .before .before .before .before .before .before .before .before .before .before .before .before .before .before .before .before .before .pre in
+    let after-centre : tie.After-centre = search in
+    let after-add : tie.After-add = search in
+    let after-raise : tie.After-raise = search in
+    let after-unpack2 : tie.After-unpack2 = search in
+    let after-width : tie.After-width = search in
+    let after-unpack : tie.After-unpack = search in
+    let start : tie.Start = search places in
+    let a = start .args in
+    let pre = start .pre in
     let p = a .p in
-    let bits = c .before .before .before .before .before .before .before .before .before .before .before .before .before .before .before .before .before .before .before .before .unpack .ensures ∙ ap (λ (m : ℕ). unpack 1 m (now (a .coins))) (pre .4) in
-    let high = c .before .before .before .before .before .before .before .before .before .before .before .before .before .before .before .unpack2 .ensures ∙ ap (λ (m : ℕ). unpack (c .before .before .before .before .before .before .before .before .before .before .before .before .before .before .before .before .before .width .result - 1) m (now (a .high))) (pre .3) in
-    c .before .before .centre .ensures
-    ∙ ap (centredWords (p .p)) (c .before .before .before .before .before .before .add .ensures ∙ ap₂ added bits (c .before .before .before .before .before .before .before .before .before .before .before .raise .ensures ∙ ap (raised 1) high))
-    ∙ first-is p (now (a .coins)) (now (a .high)) (c .before .before .before .before .before .before .before .before .before .before .before .before .before .before .before .before .before .width .result - 1) (ap (λ (m : ℕ). m - 1) (c .before .before .before .before .before .before .before .before .before .before .before .before .before .before .before .before .before .width .ensures))
+    let bits = after-unpack .unpack .ensures ∙ ap (λ (m : ℕ). unpack 1 m (now (a .coins))) (pre .4) in
+    let high = after-unpack2 .unpack2 .ensures ∙ ap (λ (m : ℕ). unpack (after-width .width .result - 1) m (now (a .high))) (pre .3) in
+    after-centre .centre .ensures
+    ∙ ap (centredWords (p .p)) (after-add .add .ensures ∙ ap₂ added bits (after-raise .raise .ensures ∙ ap (raised 1) high))
+    ∙ first-is p (now (a .coins)) (now (a .high)) (after-width .width .result - 1) (ap (λ (m : ℕ). m - 1) (after-width .width .ensures))
 
 pub first-spec : {M : Type 1} → statement M
 first-spec =

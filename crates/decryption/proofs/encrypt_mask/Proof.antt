@@ -61,7 +61,10 @@ slice-relend-prefix-shake : tie.Need-slice-relend-prefix-shake
 slice-relend-prefix-shake c = search needs
 
 slice-aggregate-shake : tie.Need-slice-aggregate-shake
-slice-aggregate-shake c = simp length-take (omega (arith, c .before .before .before .matrix .ensures .0, c .before .before .before .before .before .before .before .before .before .before .before .before .pre .work-long))
+slice-aggregate-shake c =
+    let start : tie.Start = search in
+    let after-matrix : tie.After-matrix = search in
+    simp length-take (omega (arith, after-matrix .matrix .ensures .0, start .pre .work-long))
 
 shake-requires : tie.Need-shake-requires
 shake-requires c κs = search needs
@@ -83,44 +86,82 @@ slice-reshare-prefix-assemble c = search needs
 
 -- The bytes of the stream of the coins, and both streams in the work area.
 abbrev stream : tie.After-shake2 → ℕ
-stream c = c .before .before .before .before .before .before .before .before .before .before .before .before .low .result + (c .before .before .before .before .before .before .before .before .before .before .before .padded .result + (c .before .before .before .before .before .before .before .before .before .before .high .result + c .before .before .before .before .before .before .before .before .before .rest .result))
+stream c =
+    let after-low : tie.After-low = search in
+    let after-padded : tie.After-padded = search in
+    let after-high : tie.After-high = search in
+    let after-rest : tie.After-rest = search in
+    after-low .low .result + (after-padded .padded .result + (after-high .high .result + after-rest .rest .result))
 
-stream-is : (c : tie.After-shake2) → stream c ≡ coinsStreamLength (c .before .before .before .before .before .before .before .before .before .before .before .before .before .before .before .before .before .args .p)
-stream-is c = ap₂ _+_ (c .before .before .before .before .before .before .before .before .before .before .before .before .low .ensures .0) (ap₂ _+_ (c .before .before .before .before .before .before .before .before .before .before .before .padded .ensures .0) (ap₂ _+_ (c .before .before .before .before .before .before .before .before .before .before .high .ensures .0) (c .before .before .before .before .before .before .before .before .before .rest .ensures .0)))
+stream-is : (c : tie.After-shake2) →
+    let start : tie.Start = search in
+    stream c ≡ coinsStreamLength (start .args .p)
+stream-is c =
+    let after-low : tie.After-low = search in
+    let after-padded : tie.After-padded = search in
+    let after-high : tie.After-high = search in
+    let after-rest : tie.After-rest = search in
+    ap₂ _+_ (after-low .low .ensures .0)
+    (ap₂ _+_ (after-padded .padded .ensures .0) (ap₂ _+_ (after-high .high .ensures .0) (after-rest .rest .ensures .0)))
 
-need-is : (c : tie.After-shake2) → c .before .before .before .before .before .before .before .before .matrix .result + stream c ≡ encryptWork (c .before .before .before .before .before .before .before .before .before .before .before .before .before .before .before .before .before .args .p)
-need-is c = ap₂ _+_ (c .before .before .before .before .before .before .before .before .matrix .ensures .0) (stream-is c)
+need-is : (c : tie.After-shake2) →
+    let start : tie.Start = search in
+    let after-matrix : tie.After-matrix = search in
+    after-matrix .matrix .result + stream c ≡ encryptWork (start .args .p)
+need-is c =
+    let after-matrix : tie.After-matrix = search in
+    ap₂ _+_ (after-matrix .matrix .ensures .0) (stream-is c)
 
 abbrev written : tie.After-shake2 → List ℕ
 written c =
-    let m : ℕ = c .before .before .before .before .before .before .before .before .matrix .result in
-    take (m + stream c) (patched m (m + stream c - m) (c .shake2 .last .1 .1 .0) (c .before .before .before .before .shake .last .1 .1 .0 ++ drop m (now (c .before .before .before .before .before .before .before .before .before .before .before .before .before .before .before .before .before .args .work))))
+    let start : tie.Start = search in
+    let after-matrix : tie.After-matrix = search in
+    let after-shake : tie.After-shake = search in
+    let m : ℕ = after-matrix .matrix .result in
+    take (m + stream c)
+    (patched m (m + stream c - m) (c .shake2 .last .1 .1 .0) (after-shake .shake .last .1 .1 .0 ++ drop m (now (start .args .work))))
 
-streams : (c : tie.After-shake2) → written c ≡ shake (c .before .before .before .before .before .before .before .before .before .before .before .before .before .before .before .before .before .args .p .rate) (matrixSeed (c .before .before .before .before .before .before .before .before .before .before .before .before .before .before .before .before .before .args .p) (now (c .before .before .before .before .before .before .before .before .before .before .before .before .before .before .before .before .before .args .pk))) (matrixLength (c .before .before .before .before .before .before .before .before .before .before .before .before .before .before .before .before .before .args .p)) ++ coinsStream (c .before .before .before .before .before .before .before .before .before .before .before .before .before .before .before .before .before .args .p) (now (c .before .before .before .before .before .before .before .before .before .before .before .before .before .before .before .before .before .args .coins))
+streams : (c : tie.After-shake2) →
+    let start : tie.Start = search in
+    written c ≡ shake (start .args .p .rate) (matrixSeed (start .args .p) (now (start .args .pk))) (matrixLength (start .args .p)) ++
+    coinsStream (start .args .p) (now (start .args .coins))
 unfolding coinsStream matrixSeed
 streams c =
-    let a = c .before .before .before .before .before .before .before .before .before .before .before .before .before .before .before .before .before .args in
+    let start : tie.Start = search in
+    let after-matrix : tie.After-matrix = search in
+    let after-stored : tie.After-stored = search in
+    let after-shake : tie.After-shake = search in
+    let a = start .args in
     let p = a .p in
     let pk = now (a .pk) in
-    let at : ℕ = c .before .before .before .before .before .before .before .stored .result in
-    let room : c .before .before .before .before .before .before .before .before .matrix .result + stream c ≤ length (now (a .work)) = omega (arith, need-is c, c .before .before .before .before .before .before .before .before .before .before .before .before .before .before .before .before .before .pre .work-long) in
-    two-streams (p .rate) (now (a .work)) (take (length pk - at) (drop at pk)) (now (a .coins)) (c .before .before .before .before .before .before .before .before .matrix .ensures .0) (stream-is c) room (c .before .before .before .before .shake .ensures) (c .shake2 .ensures)
-    ∙ ap (λ (l : List ℕ). shake (p .rate) l (matrixLength p) ++ coinsStream p (now (a .coins))) (take-rest at pk ∙ ap (λ (i : ℕ). drop i pk) (c .before .before .before .before .before .before .before .stored .ensures .0))
+    let at : ℕ = after-stored .stored .result in
+    let room : after-matrix .matrix .result + stream c ≤ length (now (a .work)) = omega (arith, need-is c, start .pre .work-long) in
+    two-streams (p .rate) (now (a .work)) (take (length pk - at) (drop at pk)) (now (a .coins)) (after-matrix .matrix .ensures .0)
+    (stream-is c) room (after-shake .shake .ensures) (c .shake2 .ensures)
+    ∙ ap (λ (l : List ℕ). shake (p .rate) l (matrixLength p) ++ coinsStream p (now (a .coins)))
+    (take-rest at pk ∙ ap (λ (i : ℕ). drop i pk) (after-stored .stored .ensures .0))
 
-streams-size : (c : tie.After-shake2) → length (written c) ≡ encryptWork (c .before .before .before .before .before .before .before .before .before .before .before .before .before .before .before .before .before .args .p)
-streams-size c = ap length (streams c) ∙ streams-long (c .before .before .before .before .before .before .before .before .before .before .before .before .before .before .before .before .before .args .p) (matrixSeed (c .before .before .before .before .before .before .before .before .before .before .before .before .before .before .before .before .before .args .p) (now (c .before .before .before .before .before .before .before .before .before .before .before .before .before .before .before .before .before .args .pk))) (now (c .before .before .before .before .before .before .before .before .before .before .before .before .before .before .before .before .before .args .coins))
+streams-size : (c : tie.After-shake2) →
+    let start : tie.Start = search in
+    length (written c) ≡ encryptWork (start .args .p)
+streams-size c =
+    let start : tie.Start = search in
+    ap length (streams c) ∙ streams-long (start .args .p) (matrixSeed (start .args .p) (now (start .args .pk))) (now (start .args .coins))
 
 slice-aggregate-assemble : tie.Need-slice-aggregate-assemble
-slice-aggregate-assemble c = need-is (c .before .before .before) ∙ sym (streams-size (c .before .before .before))
+slice-aggregate-assemble c =
+    let after-shake2 : tie.After-shake2 = search in
+    need-is after-shake2 ∙ sym (streams-size after-shake2)
 
 assemble-requires : tie.Need-assemble-requires
 assemble-requires c κs =
-    let pre = c .before .before .before .before .before .before .before .before .before .before .before .before .before .before .before .before .before .before .before .before .before .pre in
+    let start : tie.Start = search in
+    let pre = start .pre in
     record {
       well = pre .well;
       stored-there = omega (arith, pre .public-long);
       coins-long = pre .coins-long;
-      streams-long = streams-size (c .before .before .before .before);
+      streams-long = streams-size (search);
       cipher-long = pre .made-long;
     }
 
@@ -132,10 +173,14 @@ same-length-2 c = search needs
 
 returns : tie.Need-returns
 returns c =
-    let a = c .before .before .before .before .before .before .before .before .before .before .before .before .before .before .before .before .before .before .before .before .before .before .before .before .args in
+    let start : tie.Start = search in
+    let after-shake2 : tie.After-shake2 = search in
+    let after-assemble : tie.After-assemble = search in
+    let a = start .args in
     let p = a .p in (
-      c .before .before .assemble .ensures ∙ ap (cipherFrom p (now (a .pk)) (now (a .coins))) (streams (c .before .before .before .before .before .before .before)) ∙ mask-cipher p (c .before .before .before .before .before .before .before .before .before .before .before .before .before .before .before .before .before .before .before .before .before .before .before .before .pre .well) (now (a .pk)) (now (a .coins)),
-      rw (sym (need-is (c .before .before .before .before .before .before .before))) (streams (c .before .before .before .before .before .before .before)),
+      after-assemble .assemble .ensures ∙ ap (cipherFrom p (now (a .pk)) (now (a .coins))) (streams after-shake2) ∙
+          mask-cipher p (start .pre .well) (now (a .pk)) (now (a .coins)),
+      rw (sym (need-is after-shake2)) (streams after-shake2),
     )
 
 pub encrypt-mask-spec : {M : Type 1} → statement M

@@ -35,58 +35,94 @@ zeros-requires : tie.Need-zeros-requires
 zeros-requires c κs = search needs
 
 -- The public key has its length.
-public-long : (c : tie.After-stored) → length (take (c .stored .result + c .before .before .before .before .before .args .p .seed) (now (c .before .before .before .before .before .args .sk))) ≡ c .stored .result + c .before .before .before .before .before .args .p .seed
-public-long c = simp length-take (omega (arith, c .stored .ensures .0, c .before .before .before .before .before .pre .secret-long))
+public-long : (c : tie.After-stored) →
+    let start : tie.Start = search in
+    length (take (c .stored .result + start .args .p .seed) (now (start .args .sk))) ≡ c .stored .result + start .args .p .seed
+public-long c =
+    let start : tie.Start = search in
+    simp length-take (omega (arith, c .stored .ensures .0, start .pre .secret-long))
 
 -- The ciphertext that is made.
-fresh : (c : tie.After-zeros) → length (take (c .before .ciphertext .result) (c .zeros .result)) ≡ c .before .ciphertext .result
+fresh : (c : tie.After-zeros) →
+    let after-ciphertext : tie.After-ciphertext = search in
+    length (take (after-ciphertext .ciphertext .result) (c .zeros .result)) ≡ after-ciphertext .ciphertext .result
 fresh c =
+    let start : tie.Start = search in
+    let after-ciphertext : tie.After-ciphertext = search in
     let zeros : length (c .zeros .result) ≡ 3584 = search needs in
-    simp length-take (omega (arith, c .before .ciphertext .ensures .0, c .before .before .before .before .before .before .before .before .pre .well .cipher-fits))
+    simp length-take (omega (arith, after-ciphertext .ciphertext .ensures .0, start .pre .well .cipher-fits))
 
-made-long : (c : tie.After-encrypt-mask) → length (c .encrypt-mask .last .1 .1 .1 .0) ≡ c .before .before .before .before .before .ciphertext .result
-made-long c = c .encrypt-mask .kept .1 .1 .1 .0 ∙ fresh (c .before .before .before .before)
+made-long : (c : tie.After-encrypt-mask) →
+    let after-ciphertext : tie.After-ciphertext = search in
+    length (c .encrypt-mask .last .1 .1 .1 .0) ≡ after-ciphertext .ciphertext .result
+made-long c = c .encrypt-mask .kept .1 .1 .1 .0 ∙ fresh (search)
 
-made-is : (c : tie.After-encrypt-mask) → take (c .before .before .before .before .before .ciphertext .result) (c .encrypt-mask .last .1 .1 .1 .0 ++ drop (c .before .before .before .before .before .ciphertext .result) (c .before .before .before .before .zeros .result)) ≡ c .encrypt-mask .last .1 .1 .1 .0
-made-is c = take-at (c .encrypt-mask .last .1 .1 .1 .0) (drop (c .before .before .before .before .before .ciphertext .result) (c .before .before .before .before .zeros .result)) (c .before .before .before .before .before .ciphertext .result) (made-long c)
+made-is : (c : tie.After-encrypt-mask) →
+    let after-ciphertext : tie.After-ciphertext = search in
+    let after-zeros : tie.After-zeros = search in
+    take (after-ciphertext .ciphertext .result)
+    (c .encrypt-mask .last .1 .1 .1 .0 ++ drop (after-ciphertext .ciphertext .result) (after-zeros .zeros .result)) ≡
+    c .encrypt-mask .last .1 .1 .1 .0
+made-is c =
+    let after-ciphertext : tie.After-ciphertext = search in
+    let after-zeros : tie.After-zeros = search in
+    take-at (c .encrypt-mask .last .1 .1 .1 .0) (drop (after-ciphertext .ciphertext .result) (after-zeros .zeros .result))
+    (after-ciphertext .ciphertext .result) (made-long c)
 
 slice-aggregate-encrypt-mask : tie.Need-slice-aggregate-encrypt-mask
-slice-aggregate-encrypt-mask c = sym (public-long (c .before .before .before .before))
+slice-aggregate-encrypt-mask c = sym (public-long (search))
 
 array-borrow-prefix-made : tie.Need-array-borrow-prefix-made
 array-borrow-prefix-made c = search needs
 
 slice-aggregate-encrypt-mask-2 : tie.Need-slice-aggregate-encrypt-mask-2
-slice-aggregate-encrypt-mask-2 c = sym (fresh (c .before .before))
+slice-aggregate-encrypt-mask-2 c = sym (fresh (search))
 
 encrypt-mask-requires : tie.Need-encrypt-mask-requires
 encrypt-mask-requires c κs =
-    let pre = c .before .before .before .before .before .before .before .before .before .before .before .pre in
+    let start : tie.Start = search in
+    let after-stored : tie.After-stored = search in
+    let after-ciphertext : tie.After-ciphertext = search in
+    let pre = start .pre in
     record {
       well = pre .well;
-      public-long = public-long (c .before .before .before .before .before .before) ∙ ap (λ (i : ℕ). i + c .before .before .before .before .before .before .before .before .before .before .before .args .p .seed) (c .before .before .before .before .before .before .stored .ensures .0);
+      public-long = public-long after-stored ∙ ap (λ (i : ℕ). i + start .args .p .seed) (after-stored .stored .ensures .0);
       coins-long = pre .coins-long;
-      made-long = fresh (c .before .before .before) ∙ c .before .before .before .before .ciphertext .ensures .0;
+      made-long = fresh (search) ∙ after-ciphertext .ciphertext .ensures .0;
       work-long = pre .work-long;
     }
 
 array-share-prefix-made : tie.Need-array-share-prefix-made
 array-share-prefix-made c =
-    let zeros : length (c .before .before .before .before .before .before .before .zeros .result) ≡ 3584 = search needs in
-    let fits : c .before .before .before .before .before .before .before .before .ciphertext .result ≤ 3584 = omega (arith, c .before .before .before .before .before .before .before .before .ciphertext .ensures .0, c .before .before .before .before .before .before .before .before .before .before .before .before .before .before .before .pre .well .cipher-fits) in
-    omega (arith, begun-length (c .before .before .before .before .before .before .before .before .ciphertext .result) (c .before .before .before .encrypt-mask .last .1 .1 .1 .0) (c .before .before .before .before .before .before .before .zeros .result) (made-long (c .before .before .before)) zeros fits)
+    let start : tie.Start = search in
+    let after-ciphertext : tie.After-ciphertext = search in
+    let after-zeros : tie.After-zeros = search in
+    let after-encrypt-mask : tie.After-encrypt-mask = search in
+    let zeros : length (after-zeros .zeros .result) ≡ 3584 = search needs in
+    let fits : after-ciphertext .ciphertext .result ≤
+    3584 = omega (arith, after-ciphertext .ciphertext .ensures .0, start .pre .well .cipher-fits) in
+    omega (
+      arith,
+      begun-length (after-ciphertext .ciphertext .result) (after-encrypt-mask .encrypt-mask .last .1 .1 .1 .0)
+          (after-zeros .zeros .result) (made-long after-encrypt-mask) zeros fits,
+    )
 
 slice-aggregate-unmask : tie.Need-slice-aggregate-unmask
-slice-aggregate-unmask c = sym (ap length (made-is (c .before .before .before .before)) ∙ made-long (c .before .before .before .before))
+slice-aggregate-unmask c =
+    let after-encrypt-mask : tie.After-encrypt-mask = search in
+    sym (ap length (made-is after-encrypt-mask) ∙ made-long after-encrypt-mask)
 
 unmask-requires : tie.Need-unmask-requires
 unmask-requires c κs =
-    let pre = c .before .before .before .before .before .before .before .before .before .before .before .before .before .before .before .before .before .pre in
+    let start : tie.Start = search in
+    let after-ciphertext : tie.After-ciphertext = search in
+    let after-encrypt-mask : tie.After-encrypt-mask = search in
+    let pre = start .pre in
     record {
       well = pre .well;
       cipher-long = pre .cipher-long;
-      made-long = ap length (made-is (c .before .before .before .before .before)) ∙ made-long (c .before .before .before .before .before) ∙ c .before .before .before .before .before .before .before .before .before .before .ciphertext .ensures .0;
-      work-long = omega (arith, c .before .before .before .before .before .encrypt-mask .kept .1 .1 .1 .1 .0, pre .work-long);
+      made-long = ap length (made-is after-encrypt-mask) ∙ made-long after-encrypt-mask ∙ after-ciphertext .ciphertext .ensures .0;
+      work-long = omega (arith, after-encrypt-mask .encrypt-mask .kept .1 .1 .1 .1 .0, pre .work-long);
     }
 
 same-length : tie.Need-same-length
@@ -94,23 +130,34 @@ same-length c = search needs
 
 returns : tie.Need-returns
 returns c =
-    let a = c .before .before .before .before .before .before .before .before .before .before .before .before .before .before .before .before .before .before .before .before .args in
+    let after-unmask : tie.After-unmask = search in
+    let after-encrypt-mask : tie.After-encrypt-mask = search in
+    let after-zeros : tie.After-zeros = search in
+    let after-ciphertext : tie.After-ciphertext = search in
+    let after-stored : tie.After-stored = search in
+    let start : tie.Start = search in
+    let a = start .args in
     let p = a .p in
-    let W = c .before .before .before .before .before .before .before .before .before .before .before .before .before .before .before .before .before .before .before .before .pre .well in
+    let W = start .pre .well in
     let sk = now (a .sk) in
     let ct = now (a .ct) in
     let pk : List ℕ = publicPart p sk in
     let coins = now (a .coins) in
-    let work : List ℕ = c .before .before .before .before .before .before .before .before .encrypt-mask .last .1 .1 .1 .1 .0 in
-    let seed : List ℕ = matrixSeed p (take (c .before .before .before .before .before .before .before .before .before .before .before .before .before .before .before .stored .result + p .seed) sk) in
-    let made : take (c .before .before .before .before .before .before .before .before .before .before .before .before .before .ciphertext .result) (c .before .before .before .before .before .before .before .before .encrypt-mask .last .1 .1 .1 .0 ++ drop (c .before .before .before .before .before .before .before .before .before .before .before .before .before .ciphertext .result) (c .before .before .before .before .before .before .before .before .before .before .before .before .zeros .result)) ≡ maskCipher p pk coins
-    = made-is (c .before .before .before .before .before .before .before .before) ∙ c .before .before .before .before .before .before .before .before .encrypt-mask .ensures .0 ∙ ap (λ (l : List ℕ). maskCipher p l coins) (public-taken p sk (c .before .before .before .before .before .before .before .before .before .before .before .before .before .before .before .stored .ensures .0)) in
+    let work : List ℕ = after-encrypt-mask .encrypt-mask .last .1 .1 .1 .1 .0 in
+    let seed : List ℕ = matrixSeed p (take (after-stored .stored .result + p .seed) sk) in
+    let made : take (after-ciphertext .ciphertext .result)
+    (after-encrypt-mask .encrypt-mask .last .1 .1 .1 .0 ++ drop (after-ciphertext .ciphertext .result) (after-zeros .zeros .result)) ≡
+    maskCipher p pk coins
+    = made-is after-encrypt-mask ∙ after-encrypt-mask .encrypt-mask .ensures .0 ∙
+    ap (λ (l : List ℕ). maskCipher p l coins) (public-taken p sk (after-stored .stored .ensures .0)) in
     let there : take (paddedLength p) (drop (matrixLength p + lowLength p) work) ≡ mask p coins
-    = mask-there p (shake (p .rate) seed (matrixLength p)) coins work (length-shake (p .rate) seed (matrixLength p)) (c .before .before .before .before .before .before .before .before .encrypt-mask .ensures .1) in
+    = mask-there p (shake (p .rate) seed (matrixLength p)) coins work (length-shake (p .rate) seed (matrixLength p))
+    (after-encrypt-mask .encrypt-mask .ensures .1) in
     record {
-      fits-is = c .before .before .unmask .ensures .0 ∙ ap₂ (λ (m l : List ℕ). errorsFit (p .p) (joined (p .l + 1) (leftOver p ct m l))) made there
+      fits-is = after-unmask .unmask .ensures .0 ∙
+          ap₂ (λ (m l : List ℕ). errorsFit (p .p) (joined (p .l + 1) (leftOver p ct m l))) made there
           ∙ ap (errorsFit (p .p)) (left-all p W pk coins ct);
-      padded-is = c .before .before .unmask .ensures .1
+      padded-is = after-unmask .unmask .ensures .1
           ∙ ap₂ (λ (m l : List ℕ). xorInto l (joined (p .l + 1) (λ j. pack (width p) (lowBits (width p) (leftOver p ct m l j))))) made there
           ∙ left-opened p W pk coins ct;
     }

@@ -39,8 +39,12 @@ same-length-2 c = search needs
 
 returns : tie.Need-returns
 returns c =
-    let a = c .before .before .before .before .before .before .before .before .before .before .before .before .before .before .before .args in
-    c .before .before .before .before .recover-coins .ensures ∙ ap (λ (g : List ℕ). roundedCoins (a .p) g (now (a .ct))) (seed-taken (a .p) (now (a .sk)) (c .before .before .before .before .before .before .before .before .before .before .stored .ensures .0))
+    let start : tie.Start = search in
+    let after-stored : tie.After-stored = search in
+    let after-recover-coins : tie.After-recover-coins = search in
+    let a = start .args in
+    after-recover-coins .recover-coins .ensures ∙
+    ap (λ (g : List ℕ). roundedCoins (a .p) g (now (a .ct))) (seed-taken (a .p) (now (a .sk)) (after-stored .stored .ensures .0))
 
 pub recover-coins-spec : {M : Type 1} → statement M
 recover-coins-spec =

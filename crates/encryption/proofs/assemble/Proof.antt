@@ -14,6 +14,12 @@ use borrow.Author.Needs.{needs}
 use Rattle.encryption.proofs.assemble.Statement.{statement}
 use Rattle.encryption.proofs.assemble.Tie as tie
 
+-- From a place back to one that is far before it.
+abbrev start-of-polynomial : tie.After-polynomial → tie.Start
+start-of-polynomial c = search
+
+ruleset places = (start-of-polynomial)
+
 mul-vector : tie.Need-mul-vector
 mul-vector c = search needs
 
@@ -70,41 +76,46 @@ array-borrow-prefix-s c = search needs
 
 slice-aggregate-ephemeral : tie.Need-slice-aggregate-ephemeral
 slice-aggregate-ephemeral c =
-    let a = c .before .before .before .before .before .before .before .before .before .before .before .before .before .before .before .args in
-    let p = a .p in
-    let pre = c .before .before .before .before .before .before .before .before .before .before .before .before .before .before .before .pre in
-    let W = pre .well in
-    let zeros : length (c .before .before .before .before .before .zeros .result) ≡ 1536 = search needs in
+    let start : tie.Start = search in
+    let after-zeros : tie.After-zeros = search in
+    let p = start .args .p in
+    let W = start .pre .well in
+    let zeros : length (after-zeros .zeros .result) ≡ 1536 = search needs in
     simp length-take (omega (arith, W .vector))
 
 ephemeral-requires : tie.Need-ephemeral-requires
 ephemeral-requires c κs =
-    let a = c .before .before .before .before .before .before .before .before .before .before .before .before .before .before .before .args in
+    let start : tie.Start = search in
+    let after-matrix : tie.After-matrix = search in
+    let after-low : tie.After-low = search in
+    let after-padded : tie.After-padded = search in
+    let after-high : tie.After-high = search in
+    let after-zeros : tie.After-zeros = search in
+    let a = start .args in
     let p = a .p in
-    let pre = c .before .before .before .before .before .before .before .before .before .before .before .before .before .before .before .pre in
+    let pre = start .pre in
     let W = pre .well in
-    let zeros : length (c .before .before .before .before .before .zeros .result) ≡ 1536 = search needs in
-    let em = c .before .before .before .before .before .before .before .before .before .matrix .ensures .0 in
-    let ea = c .before .before .before .before .before .before .before .before .low .ensures .0 in
-    let ek = c .before .before .before .before .before .before .before .padded .ensures .0 in
-    let eh = c .before .before .before .before .before .before .high .ensures .0 in
+    let zeros : length (after-zeros .zeros .result) ≡ 1536 = search needs in
+    let em = after-matrix .matrix .ensures .0 in
+    let ea = after-low .low .ensures .0 in
+    let ek = after-padded .padded .ensures .0 in
     let X = now (a .streams) in
     record {
       well = W;
       coins-long = pre .coins-long;
       high-there = rw (take-rest _ X, length-drop _ X) (omega (arith, em, ea, ek, pre .streams-long));
-      rest-there = rw (take-rest _ X, length-drop _ X) (omega (arith, em, ea, ek, eh, pre .streams-long));
+      rest-there = rw (take-rest _ X, length-drop _ X) (omega (arith, em, ea, ek, (after-high .high .ensures .0), pre .streams-long));
       secret-long = simp length-take (omega (arith, W .vector));
     }
 
 slice-aggregate-cipher-parts : tie.Need-slice-aggregate-cipher-parts
 slice-aggregate-cipher-parts c =
-    let a = c .before .before .before .before .before .before .before .before .before .before .before .before .before .before .before .before .before .before .args in
-    let p = a .p in
-    let pre = c .before .before .before .before .before .before .before .before .before .before .before .before .before .before .before .before .before .before .pre in
+    let start : tie.Start = search in
+    let after-matrix : tie.After-matrix = search in
+    let p = start .args .p in
+    let pre = start .pre in
     let W = pre .well in
-    let em = c .before .before .before .before .before .before .before .before .before .before .before .before .matrix .ensures .0 in
-    simp length-take (omega (arith, em, pre .streams-long))
+    simp length-take (omega (arith, (after-matrix .matrix .ensures .0), pre .streams-long))
 
 sub-cipher-parts : tie.Need-sub-cipher-parts
 sub-cipher-parts c = search needs
@@ -126,28 +137,32 @@ part-cipher-parts-end-2 c = search needs
 
 array-share-prefix-s : tie.Need-array-share-prefix-s
 array-share-prefix-s c =
-    let a = c .before .before .before .before .before .before .before .before .before .before .before .before .before .before .before .before .before .before .before .before .args in
-    let p = a .p in
-    let pre = c .before .before .before .before .before .before .before .before .before .before .before .before .before .before .before .before .before .before .before .before .pre in
-    let W = pre .well in
-    let zeros : length (c .before .before .before .before .before .before .before .before .before .before .zeros .result) ≡ 1536 = search needs in
-    let ys = c .before .before .before .before .ephemeral .last .1 .1 .1 .1 .0 in
-    let fresh : length (take (p .l * p .n) (c .before .before .before .before .before .before .before .before .before .before .zeros .result)) ≡ p .l * p .n = simp length-take (omega (arith, W .vector)) in
-    let ly : length ys ≡ p .l * p .n = c .before .before .before .before .ephemeral .kept .1 .1 .1 .1 .0 ∙ fresh in
-    let long : length (ys ++ drop (p .l * p .n) (c .before .before .before .before .before .before .before .before .before .before .zeros .result)) ≡ 1536 = begun-length (p .l * p .n) ys (c .before .before .before .before .before .before .before .before .before .before .zeros .result) ly zeros (W .vector) in
+    let start : tie.Start = search in
+    let after-zeros : tie.After-zeros = search in
+    let after-ephemeral : tie.After-ephemeral = search in
+    let p = start .args .p in
+    let W = start .pre .well in
+    let zeros : length (after-zeros .zeros .result) ≡ 1536 = search needs in
+    let ys = after-ephemeral .ephemeral .last .1 .1 .1 .1 .0 in
+    let fresh : length (take (p .l * p .n) (after-zeros .zeros .result)) ≡ p .l * p .n = simp length-take (omega (arith, W .vector)) in
+    let ly : length ys ≡ p .l * p .n = after-ephemeral .ephemeral .kept .1 .1 .1 .1 .0 ∙ fresh in
+    let long : length (ys ++ drop (p .l * p .n) (after-zeros .zeros .result)) ≡
+    1536 = begun-length (p .l * p .n) ys (after-zeros .zeros .result) ly zeros (W .vector) in
     omega (arith, long, W .vector)
 
 slice-aggregate-cipher-parts-2 : tie.Need-slice-aggregate-cipher-parts-2
 slice-aggregate-cipher-parts-2 c =
-    let a = c .before .before .before .before .before .before .before .before .before .before .before .before .before .before .before .before .before .before .before .before .before .args in
-    let p = a .p in
-    let pre = c .before .before .before .before .before .before .before .before .before .before .before .before .before .before .before .before .before .before .before .before .before .pre in
-    let W = pre .well in
-    let zeros : length (c .before .before .before .before .before .before .before .before .before .before .before .zeros .result) ≡ 1536 = search needs in
-    let ys = c .before .before .before .before .before .ephemeral .last .1 .1 .1 .1 .0 in
-    let fresh : length (take (p .l * p .n) (c .before .before .before .before .before .before .before .before .before .before .before .zeros .result)) ≡ p .l * p .n = simp length-take (omega (arith, W .vector)) in
-    let ly : length ys ≡ p .l * p .n = c .before .before .before .before .before .ephemeral .kept .1 .1 .1 .1 .0 ∙ fresh in
-    let long : length (ys ++ drop (p .l * p .n) (c .before .before .before .before .before .before .before .before .before .before .before .zeros .result)) ≡ 1536 = begun-length (p .l * p .n) ys (c .before .before .before .before .before .before .before .before .before .before .before .zeros .result) ly zeros (W .vector) in
+    let start : tie.Start = search in
+    let after-zeros : tie.After-zeros = search in
+    let after-ephemeral : tie.After-ephemeral = search in
+    let p = start .args .p in
+    let W = start .pre .well in
+    let zeros : length (after-zeros .zeros .result) ≡ 1536 = search needs in
+    let ys = after-ephemeral .ephemeral .last .1 .1 .1 .1 .0 in
+    let fresh : length (take (p .l * p .n) (after-zeros .zeros .result)) ≡ p .l * p .n = simp length-take (omega (arith, W .vector)) in
+    let ly : length ys ≡ p .l * p .n = after-ephemeral .ephemeral .kept .1 .1 .1 .1 .0 ∙ fresh in
+    let long : length (ys ++ drop (p .l * p .n) (after-zeros .zeros .result)) ≡
+    1536 = begun-length (p .l * p .n) ys (after-zeros .zeros .result) ly zeros (W .vector) in
     simp length-take (omega (arith, long, W .vector))
 
 array-borrow-prefix-f : tie.Need-array-borrow-prefix-f
@@ -155,11 +170,11 @@ array-borrow-prefix-f c = search needs
 
 slice-aggregate-cipher-parts-3 : tie.Need-slice-aggregate-cipher-parts-3
 slice-aggregate-cipher-parts-3 c =
-    let a = c .before .before .before .before .before .before .before .before .before .before .before .before .before .before .before .before .before .before .before .before .before .before .args in
-    let p = a .p in
-    let pre = c .before .before .before .before .before .before .before .before .before .before .before .before .before .before .before .before .before .before .before .before .before .before .pre in
-    let W = pre .well in
-    let zeros2 : length (c .before .before .before .before .before .before .before .before .before .before .before .zeros2 .result) ≡ 1536 = search needs in
+    let start : tie.Start = search in
+    let after-zeros2 : tie.After-zeros2 = search in
+    let p = start .args .p in
+    let W = start .pre .well in
+    let zeros2 : length (after-zeros2 .zeros2 .result) ≡ 1536 = search needs in
     simp length-take (omega (arith, W .vector))
 
 array-borrow-prefix-acc : tie.Need-array-borrow-prefix-acc
@@ -167,33 +182,32 @@ array-borrow-prefix-acc c = search needs
 
 slice-aggregate-cipher-parts-4 : tie.Need-slice-aggregate-cipher-parts-4
 slice-aggregate-cipher-parts-4 c =
-    let a = c .before .before .before .before .before .before .before .before .before .before .before .before .before .before .before .before .before .before .before .before .before .before .before .args in
-    let p = a .p in
-    let pre = c .before .before .before .before .before .before .before .before .before .before .before .before .before .before .before .before .before .before .before .before .before .before .before .pre in
-    let W = pre .well in
-    let room : length (c .before .before .before .before .before .before .before .before .before .before .before .polynomial .result) ≡ 512 = search needs in
+    let start : tie.Start = search in
+    let after-polynomial : tie.After-polynomial = search in
+    let p = start .args .p in
+    let W = start .pre .well in
+    let room : length (after-polynomial .polynomial .result) ≡ 512 = search needs in
     simp length-take (omega (arith, W .short))
 
 cipher-parts-requires : tie.Need-cipher-parts-requires
 cipher-parts-requires c κs =
-    let a = c .before .before .before .before .before .before .before .before .before .before .before .before .before .before .before .before .before .before .before .before .before .before .before .before .args in
+    let a = start .args in
     let p = a .p in
-    let pre = c .before .before .before .before .before .before .before .before .before .before .before .before .before .before .before .before .before .before .before .before .before .before .before .before .pre in
+    let pre = start .pre in
     let W = pre .well in
-    let zeros : length (c .before .before .before .before .before .before .before .before .before .before .before .before .before .before .zeros .result) ≡ 1536 = search needs in
-    let zeros2 : length (c .before .before .before .before .before .before .before .before .before .before .before .before .before .zeros2 .result) ≡ 1536 = search needs in
-    let room : length (c .before .before .before .before .before .before .before .before .before .before .before .before .polynomial .result) ≡ 512 = search needs in
-    let ys = c .before .before .before .before .before .before .before .before .ephemeral .last .1 .1 .1 .1 .0 in
-    let fresh : length (take (p .l * p .n) (c .before .before .before .before .before .before .before .before .before .before .before .before .before .before .zeros .result)) ≡ p .l * p .n = simp length-take (omega (arith, W .vector)) in
-    let ly : length ys ≡ p .l * p .n = c .before .before .before .before .before .before .before .before .ephemeral .kept .1 .1 .1 .1 .0 ∙ fresh in
-    let long : length (ys ++ drop (p .l * p .n) (c .before .before .before .before .before .before .before .before .before .before .before .before .before .before .zeros .result)) ≡ 1536 = begun-length (p .l * p .n) ys (c .before .before .before .before .before .before .before .before .before .before .before .before .before .before .zeros .result) ly zeros (W .vector) in
-    let em = c .before .before .before .before .before .before .before .before .before .before .before .before .before .before .before .before .before .before .matrix .ensures .0 in
-    let ea = c .before .before .before .before .before .before .before .before .before .before .before .before .before .before .before .before .before .low .ensures .0 in
-    let ek = c .before .before .before .before .before .before .before .before .before .before .before .before .before .before .before .before .padded .ensures .0 in
-    let eh = c .before .before .before .before .before .before .before .before .before .before .before .before .before .before .before .high .ensures .0 in
+    let zeros : length (after-zeros .zeros .result) ≡ 1536 = search needs in
+    let zeros2 : length (after-zeros2 .zeros2 .result) ≡ 1536 = search needs in
+    let room : length (after-polynomial .polynomial .result) ≡ 512 = search needs in
+    let ys = after-ephemeral .ephemeral .last .1 .1 .1 .1 .0 in
+    let fresh : length (take (p .l * p .n) (after-zeros .zeros .result)) ≡ p .l * p .n = simp length-take (omega (arith, W .vector)) in
+    let ly : length ys ≡ p .l * p .n = after-ephemeral .ephemeral .kept .1 .1 .1 .1 .0 ∙ fresh in
+    let long : length (ys ++ drop (p .l * p .n) (after-zeros .zeros .result)) ≡
+    1536 = begun-length (p .l * p .n) ys (after-zeros .zeros .result) ly zeros (W .vector) in
+    let em = after-matrix .matrix .ensures .0 in
+    let ek = after-padded .padded .ensures .0 in
+    let eh = after-high .high .ensures .0 in
     let X = now (a .streams) in
-    let m = c .before .before .before .before .before .before .before .before .before .before .before .before .before .before .before .before .before .before .matrix .result in
-    let at = m + c .before .before .before .before .before .before .before .before .before .before .before .before .before .before .before .before .before .low .result in
+    let at = (after-matrix .matrix .result) + after-low .low .result in
     record {
       factors = record {
         room = record {
@@ -204,35 +218,85 @@ cipher-parts-requires c κs =
         };
         rows-long = simp length-take (omega (arith, em, pre .streams-long));
       };
-      masked-long = part-length at (c .before .before .before .before .before .before .before .before .before .before .before .before .before .before .before .before .padded .result) X (omega (arith, em, ea, ek, pre .streams-long)) ∙ ek;
+      masked-long = part-length at (after-padded .padded .result) X
+          (omega (arith, em, (after-low .low .ensures .0), ek, pre .streams-long)) ∙ ek;
       secret-long = simp length-take (omega (arith, long, W .vector));
       sum = simp length-take (omega (arith, W .short));
       cipher-long = pre .cipher-long;
     }
+  where
+    start : tie.Start
+    start = search
+
+    after-matrix : tie.After-matrix
+    after-matrix = search
+
+    after-low : tie.After-low
+    after-low = search
+
+    after-padded : tie.After-padded
+    after-padded = search
+
+    after-high : tie.After-high
+    after-high = search
+
+    after-zeros : tie.After-zeros
+    after-zeros = search
+
+    after-zeros2 : tie.After-zeros2
+    after-zeros2 = search
+
+    after-polynomial : tie.After-polynomial
+    after-polynomial = search
+
+    after-ephemeral : tie.After-ephemeral
+    after-ephemeral = search
 
 same-length : tie.Need-same-length
 same-length c = search needs
 
 returns : tie.Need-returns
 returns c =
-    let a = c .before .before .before .before .before .before .before .before .before .before .before .before .before .before .before .before .before .before .before .before .before .before .before .before .before .before .before .before .before .args in
+    let a = start .args in
     let p = a .p in
-    let pre = c .before .before .before .before .before .before .before .before .before .before .before .before .before .before .before .before .before .before .before .before .before .before .before .before .before .before .before .before .before .pre in
-    let W = pre .well in
-    let zeros : length (c .before .before .before .before .before .before .before .before .before .before .before .before .before .before .before .before .before .before .before .zeros .result) ≡ 1536 = search needs in
-    let ys = c .before .before .before .before .before .before .before .before .before .before .before .before .before .ephemeral .last .1 .1 .1 .1 .0 in
-    let fresh : length (take (p .l * p .n) (c .before .before .before .before .before .before .before .before .before .before .before .before .before .before .before .before .before .before .before .zeros .result)) ≡ p .l * p .n = simp length-take (omega (arith, W .vector)) in
-    let ly : length ys ≡ p .l * p .n = c .before .before .before .before .before .before .before .before .before .before .before .before .before .ephemeral .kept .1 .1 .1 .1 .0 ∙ fresh in
-    let long : length (ys ++ drop (p .l * p .n) (c .before .before .before .before .before .before .before .before .before .before .before .before .before .before .before .before .before .before .before .zeros .result)) ≡ 1536 = begun-length (p .l * p .n) ys (c .before .before .before .before .before .before .before .before .before .before .before .before .before .before .before .before .before .before .before .zeros .result) ly zeros (W .vector) in
-    let em = c .before .before .before .before .before .before .before .before .before .before .before .before .before .before .before .before .before .before .before .before .before .before .before .matrix .ensures .0 in
-    let ea = c .before .before .before .before .before .before .before .before .before .before .before .before .before .before .before .before .before .before .before .before .before .before .low .ensures .0 in
-    let ek = c .before .before .before .before .before .before .before .before .before .before .before .before .before .before .before .before .before .before .before .before .before .padded .ensures .0 in
-    let eh = c .before .before .before .before .before .before .before .before .before .before .before .before .before .before .before .before .before .before .before .before .high .ensures .0 in
+    let W = start .pre .well in
+    let zeros : length (after-zeros .zeros .result) ≡ 1536 = search needs in
+    let ys = after-ephemeral .ephemeral .last .1 .1 .1 .1 .0 in
+    let fresh : length (take (p .l * p .n) (after-zeros .zeros .result)) ≡ p .l * p .n = simp length-take (omega (arith, W .vector)) in
+    let ly : length ys ≡ p .l * p .n = after-ephemeral .ephemeral .kept .1 .1 .1 .1 .0 ∙ fresh in
+    let long : length (ys ++ drop (p .l * p .n) (after-zeros .zeros .result)) ≡
+    1536 = begun-length (p .l * p .n) ys (after-zeros .zeros .result) ly zeros (W .vector) in
     let X = now (a .streams) in
-    let rest = drop (p .l * p .n) (c .before .before .before .before .before .before .before .before .before .before .before .before .before .before .before .before .before .before .before .zeros .result) in
-    assemble-is p W (now (a .pk)) (now (a .coins)) X (take (p .l * p .n) (ys ++ rest)) (c .before .before .before .before .cipher-parts .last .1 .1 .1 .1 .1 .1 .1 .1 .0)
-    (c .before .before .before .before .before .before .before .before .before .before .before .before .before .before .before .before .before .before .before .before .before .before .before .matrix .result) (c .before .before .before .before .before .before .before .before .before .before .before .before .before .before .before .before .before .before .before .before .before .before .low .result) (c .before .before .before .before .before .before .before .before .before .before .before .before .before .before .before .before .before .before .before .before .before .padded .result) (c .before .before .before .before .before .before .before .before .before .before .before .before .before .before .before .before .before .before .before .before .high .result) em ea ek eh
-    (take-at ys rest (p .l * p .n) ly ∙ c .before .before .before .before .before .before .before .before .before .before .before .before .before .ephemeral .ensures) (c .before .before .before .before .cipher-parts .ensures)
+    let rest = drop (p .l * p .n) (after-zeros .zeros .result) in
+    assemble-is p W (now (a .pk)) (now (a .coins)) X (take (p .l * p .n) (ys ++ rest))
+    (after-cipher-parts .cipher-parts .last .1 .1 .1 .1 .1 .1 .1 .1 .0)
+    (after-matrix .matrix .result) (after-low .low .result) (after-padded .padded .result) (after-high .high .result)
+    (after-matrix .matrix .ensures .0) (after-low .low .ensures .0) (after-padded .padded .ensures .0) (after-high .high .ensures .0)
+    (take-at ys rest (p .l * p .n) ly ∙ after-ephemeral .ephemeral .ensures) (after-cipher-parts .cipher-parts .ensures)
+  where
+    start : tie.Start
+    start = search places
+
+    after-matrix : tie.After-matrix
+    after-matrix = search
+
+    after-low : tie.After-low
+    after-low = search
+
+    after-padded : tie.After-padded
+    after-padded = search
+
+    after-high : tie.After-high
+    after-high = search
+
+    after-zeros : tie.After-zeros
+    after-zeros = search
+
+    after-ephemeral : tie.After-ephemeral
+    after-ephemeral = search
+
+    after-cipher-parts : tie.After-cipher-parts
+    after-cipher-parts = search
 
 pub assemble-spec : {M : Type 1} → statement M
 assemble-spec =

@@ -14,9 +14,11 @@ sum-part-requires c κs = search needs
 
 pack-requires : tie.Need-pack-requires
 pack-requires c κs =
-    let pre = c .before .before .before .before .before .before .before .before .before .before .before .pre in
-    let p = c .before .before .before .before .before .before .before .before .before .before .before .args .p in
-    (pre .0 .well .word, fills p (pre .0 .well) (p .k) (c .before .before .before .before .sum-part .kept .1 .1 .1 .1 .0 ∙ pre .0 .sum) (pre .1))
+    let start : tie.Start = search in
+    let after-sum-part : tie.After-sum-part = search in
+    let pre = start .pre in
+    let p = start .args .p in
+    (pre .0 .well .word, fills p (pre .0 .well) (p .k) (after-sum-part .sum-part .kept .1 .1 .1 .1 .0 ∙ pre .0 .sum) (pre .1))
 
 same-length : tie.Need-same-length
 same-length c = search needs
@@ -26,8 +28,11 @@ same-length-2 c = search needs
 
 returns : tie.Need-returns
 returns c =
-    let p = c .before .before .before .before .before .before .before .before .before .before .before .before .before .before .args .p in
-    c .before .before .pack .ensures ∙ ap (λ (l : List ℕ). pack (p .k) (lowBits (p .k) l)) (c .before .before .before .before .before .before .before .sum-part .ensures)
+    let start : tie.Start = search in
+    let after-sum-part : tie.After-sum-part = search in
+    let after-pack : tie.After-pack = search in
+    let p = start .args .p in
+    after-pack .pack .ensures ∙ ap (λ (l : List ℕ). pack (p .k) (lowBits (p .k) l)) (after-sum-part .sum-part .ensures)
 
 pub cipher-part-spec : {M : Type 1} → statement M
 cipher-part-spec =

@@ -63,40 +63,74 @@ slice-relend-prefix-expand c = search needs
 
 -- The part of the work area that the streams fill, before and after.
 abbrev need : tie.After-matrix → ℕ
-need c = c .matrix .result + (c .before .before .before .before .low .result + (c .before .before .before .padded .result + (c .before .before .high .result + c .before .rest .result)))
+need c =
+    let after-low : tie.After-low = search in
+    let after-padded : tie.After-padded = search in
+    let after-high : tie.After-high = search in
+    let after-rest : tie.After-rest = search in
+    c .matrix .result + (after-low .low .result + (after-padded .padded .result + (after-high .high .result + after-rest .rest .result)))
 
-need-is : (c : tie.After-matrix) → need c ≡ encryptWork (c .before .before .before .before .before .before .before .before .before .before .args .p)
-need-is c = ap₂ _+_ (c .matrix .ensures .0) (ap₂ _+_ (c .before .before .before .before .low .ensures .0) (ap₂ _+_ (c .before .before .before .padded .ensures .0) (ap₂ _+_ (c .before .before .high .ensures .0) (c .before .rest .ensures .0))))
+need-is : (c : tie.After-matrix) →
+    let start : tie.Start = search in
+    need c ≡ encryptWork (start .args .p)
+need-is c =
+    let after-low : tie.After-low = search in
+    let after-padded : tie.After-padded = search in
+    let after-high : tie.After-high = search in
+    let after-rest : tie.After-rest = search in
+    ap₂ _+_ (c .matrix .ensures .0)
+    (ap₂ _+_ (after-low .low .ensures .0)
+    (ap₂ _+_ (after-padded .padded .ensures .0) (ap₂ _+_ (after-high .high .ensures .0) (after-rest .rest .ensures .0))))
 
-fresh-size : (c : tie.After-matrix) → length (take (need c) (now (c .before .before .before .before .before .before .before .before .before .before .args .work))) ≡ need c
-fresh-size c = simp length-take (omega (arith, need-is c, c .before .before .before .before .before .before .before .before .before .before .pre .work-long))
+fresh-size : (c : tie.After-matrix) →
+    let start : tie.Start = search in
+    length (take (need c) (now (start .args .work))) ≡ need c
+fresh-size c =
+    let start : tie.Start = search in
+    simp length-take (omega (arith, need-is c, start .pre .work-long))
 
-streams-size : (c : tie.After-expand) → length (c .expand .last .1 .1 .1 .1 .0) ≡ need (c .before .before .before .before)
-streams-size c = c .expand .kept .1 .1 .1 .1 .0 ∙ fresh-size (c .before .before .before .before)
+streams-size : (c : tie.After-expand) →
+    let after-matrix : tie.After-matrix = search in
+    length (c .expand .last .1 .1 .1 .1 .0) ≡ need after-matrix
+streams-size c = c .expand .kept .1 .1 .1 .1 .0 ∙ fresh-size (search)
 
-streams : (c : tie.After-expand) → take (need (c .before .before .before .before)) (c .expand .last .1 .1 .1 .1 .0 ++ drop (need (c .before .before .before .before)) (now (c .before .before .before .before .before .before .before .before .before .before .before .before .before .before .args .work))) ≡ c .expand .last .1 .1 .1 .1 .0
-streams c = take-at (c .expand .last .1 .1 .1 .1 .0) (drop (need (c .before .before .before .before)) (now (c .before .before .before .before .before .before .before .before .before .before .before .before .before .before .args .work))) (need (c .before .before .before .before)) (streams-size c)
+streams : (c : tie.After-expand) →
+    let start : tie.Start = search in
+    let after-matrix : tie.After-matrix = search in
+    take (need after-matrix) (c .expand .last .1 .1 .1 .1 .0 ++ drop (need after-matrix) (now (start .args .work))) ≡
+    c .expand .last .1 .1 .1 .1 .0
+streams c =
+    let start : tie.Start = search in
+    let after-matrix : tie.After-matrix = search in
+    take-at (c .expand .last .1 .1 .1 .1 .0) (drop (need after-matrix) (now (start .args .work))) (need after-matrix) (streams-size c)
 
 slice-aggregate-expand : tie.Need-slice-aggregate-expand
-slice-aggregate-expand c = sym (fresh-size (c .before .before .before))
+slice-aggregate-expand c = sym (fresh-size (search))
 
 expand-requires : tie.Need-expand-requires
-expand-requires c κs = (c .before .before .before .before .before .before .before .before .before .before .before .before .before .pre .well, c .before .before .before .before .before .before .before .before .before .before .before .before .before .pre .message-fits, fresh-size (c .before .before .before) ∙ need-is (c .before .before .before))
+expand-requires c κs =
+    let start : tie.Start = search in
+    let after-matrix : tie.After-matrix = search in
+    (start .pre .well, start .pre .message-fits, fresh-size after-matrix ∙ need-is after-matrix)
 
 slice-reshare-prefix-assemble : tie.Need-slice-reshare-prefix-assemble
 slice-reshare-prefix-assemble c = search needs
 
 slice-aggregate-assemble : tie.Need-slice-aggregate-assemble
-slice-aggregate-assemble c = sym (ap length (streams (c .before .before .before)) ∙ streams-size (c .before .before .before))
+slice-aggregate-assemble c =
+    let after-expand : tie.After-expand = search in
+    sym (ap length (streams after-expand) ∙ streams-size after-expand)
 
 assemble-requires : tie.Need-assemble-requires
 assemble-requires c κs =
-    let pre = c .before .before .before .before .before .before .before .before .before .before .before .before .before .before .before .before .before .before .pre in
+    let start : tie.Start = search in
+    let after-expand : tie.After-expand = search in
+    let pre = start .pre in
     record {
       well = pre .well;
       stored-there = omega (arith, pre .public-long);
       coins-long = pre .coins-long;
-      streams-long = ap length (streams (c .before .before .before .before)) ∙ streams-size (c .before .before .before .before) ∙ need-is (c .before .before .before .before .before .before .before .before);
+      streams-long = ap length (streams after-expand) ∙ streams-size after-expand ∙ need-is (search);
       cipher-long = pre .cipher-long;
     }
 
@@ -109,15 +143,21 @@ same-length-2 c = search needs
 returns : tie.Need-returns
 unfolding matrixSeed
 returns c =
-    let a = c .before .before .before .before .before .before .before .before .before .before .before .before .before .before .before .before .before .before .before .before .before .args in
+    let start : tie.Start = search in
+    let after-stored : tie.After-stored = search in
+    let after-expand : tie.After-expand = search in
+    let after-assemble : tie.After-assemble = search in
+    let a = start .args in
     let p = a .p in
-    let at : ℕ = c .before .before .before .before .before .before .before .before .before .before .stored .result in
+    let at : ℕ = after-stored .stored .result in
     let pk = now (a .pk) in
-    let seed : take (length pk - at) (drop at pk) ≡ matrixSeed p pk = take-rest at pk ∙ ap (λ (i : ℕ). drop i pk) (c .before .before .before .before .before .before .before .before .before .before .stored .ensures .0) in
-    c .before .before .assemble .ensures
-    ∙ ap (cipherFrom p pk (now (a .coins))) (streams (c .before .before .before .before .before .before .before) ∙ c .before .before .before .before .before .before .before .expand .ensures
-    ∙ ap (λ (sd : List ℕ). shake (p .rate) sd (matrixLength p) ++ patched (lowLength p) (paddedLength p) (masked p (now (a .coins)) (now (a .message))) (coinsStream p (now (a .coins)))) seed)
-    ∙ encrypt-is p (c .before .before .before .before .before .before .before .before .before .before .before .before .before .before .before .before .before .before .before .before .before .pre .well) pk (now (a .coins)) (now (a .message))
+    let seed : take (length pk - at) (drop at pk) ≡ matrixSeed p pk = take-rest at pk ∙
+    ap (λ (i : ℕ). drop i pk) (after-stored .stored .ensures .0) in
+    after-assemble .assemble .ensures
+    ∙ ap (cipherFrom p pk (now (a .coins))) (streams after-expand ∙ after-expand .expand .ensures
+    ∙ ap (λ (sd : List ℕ). shake (p .rate) sd (matrixLength p) ++
+    patched (lowLength p) (paddedLength p) (masked p (now (a .coins)) (now (a .message))) (coinsStream p (now (a .coins)))) seed)
+    ∙ encrypt-is p (start .pre .well) pk (now (a .coins)) (now (a .message))
 
 pub encrypt-spec : {M : Type 1} → statement M
 encrypt-spec =

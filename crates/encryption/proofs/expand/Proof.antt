@@ -30,8 +30,9 @@ slice-relend-prefix-shake c = search needs
 
 slice-aggregate-shake : tie.Need-slice-aggregate-shake
 slice-aggregate-shake c =
-    let long = c .before .before .before .before .before .before .before .before .pre .2 in
-    simp length-take (omega (arith, c .before .before .before .matrix .ensures .0, long))
+    let start : tie.Start = search in
+    let after-matrix : tie.After-matrix = search in
+    simp length-take (omega (arith, after-matrix .matrix .ensures .0, (start .pre .2)))
 
 shake-requires : tie.Need-shake-requires
 shake-requires c κs = search needs
@@ -65,14 +66,23 @@ same-length c = search needs
 
 returns : tie.Need-returns
 returns c =
-    let a = c .before .before .before .before .before .before .before .before .before .before .before .before .before .before .before .before .before .before .before .args in
-    let pre = c .before .before .before .before .before .before .before .before .before .before .before .before .before .before .before .before .before .before .before .pre in
-    let m = c .before .before .before .before .before .before .before .before .before .before .before .before .before .before .matrix .result in
-    let first : length (take m (now (a .work))) ≡ m = simp length-take (omega (arith, c .before .before .before .before .before .before .before .before .before .before .before .before .before .before .matrix .ensures .0, pre .2)) in
-    expand-is (a .p) m (c .before .before .before .before .before .before .before .before .before .before .before .before .before .low .result) (c .before .before .before .before .before .before .before .before .before .before .before .before .padded .result) (c .before .before .before .before .before .before .before .before .before .before .shake .last .1 .1 .0) (c .before .before .before .before .before .before .shake2 .last .1 .1 .0)
+    let after-add-padded : tie.After-add-padded = search in
+    let after-shake2 : tie.After-shake2 = search in
+    let after-shake : tie.After-shake = search in
+    let after-padded : tie.After-padded = search in
+    let after-low : tie.After-low = search in
+    let after-matrix : tie.After-matrix = search in
+    let start : tie.Start = search in
+    let a = start .args in
+    let pre = start .pre in
+    let m = after-matrix .matrix .result in
+    let first : length (take m (now (a .work))) ≡ m = simp length-take (omega (arith, after-matrix .matrix .ensures .0, pre .2)) in
+    expand-is (a .p) m (after-low .low .result) (after-padded .padded .result) (after-shake .shake .last .1 .1 .0)
+    (after-shake2 .shake2 .last .1 .1 .0)
     (now (a .work)) (now (a .seed)) (now (a .coins)) (now (a .message))
-    (c .before .before .before .before .before .before .before .before .before .before .before .before .before .before .matrix .ensures .0) (c .before .before .before .before .before .before .before .before .before .before .before .before .before .low .ensures .0) (c .before .before .before .before .before .before .before .before .before .before .before .before .padded .ensures .0) (pre .2) (c .before .before .before .before .before .before .before .before .before .before .shake .kept .1 .1 .0 ∙ first)
-    (c .before .before .before .before .before .before .before .before .before .before .shake .ensures) (c .before .before .before .before .before .before .shake2 .ensures) (c .before .before .add-padded .ensures)
+    (after-matrix .matrix .ensures .0) (after-low .low .ensures .0) (after-padded .padded .ensures .0) (pre .2)
+    (after-shake .shake .kept .1 .1 .0 ∙ first)
+    (after-shake .shake .ensures) (after-shake2 .shake2 .ensures) (after-add-padded .add-padded .ensures)
 
 pub expand-spec : {M : Type 1} → statement M
 expand-spec =

@@ -20,10 +20,10 @@ sound-new : (c : tie.After-new) → Sound (c .new .result)
 sound-new c = subst Sound (sym (c .new .ensures)) (sound-fresh _ (omega arith) (omega arith))
 
 sound-taken : (c : tie.After-absorb) → Sound (c .absorb .result)
-sound-taken c = subst Sound (sym (c .absorb .ensures)) (sound-absorbed _ _ (sound-new (c .before)))
+sound-taken c = subst Sound (sym (c .absorb .ensures)) (sound-absorbed _ _ (sound-new (search)))
 
 sound-complete : (c : tie.After-finish) → Sound (c .finish .result)
-sound-complete c = subst Sound (sym (c .finish .ensures)) (sound-finished _ (sound-taken (c .before)))
+sound-complete c = subst Sound (sym (c .finish .ensures)) (sound-finished _ (sound-taken (search)))
 
 absorb-requires : tie.Need-absorb-requires
 absorb-requires c κs = sound-new c
@@ -32,20 +32,25 @@ finish-requires : tie.Need-finish-requires
 finish-requires c κs = sound-taken c
 
 squeeze-requires : tie.Need-squeeze-requires
-squeeze-requires c κs = search (sound-complete (c .before), sound-taken (c .before .before))
+squeeze-requires c κs = search (sound-complete (search), sound-taken (search))
 
 same-length : tie.Need-same-length
 same-length c = search needs
 
 returns : tie.Need-returns
 returns c =
-    let a = c .before .before .before .before .before .before .before .before .before .args in
+    let start : tie.Start = search in
+    let after-new : tie.After-new = search in
+    let after-absorb : tie.After-absorb = search in
+    let after-finish : tie.After-finish = search in
+    let after-squeeze : tie.After-squeeze = search in
+    let a = start .args in
     let n = length (now (a .output)) in
-    c .before .before .squeeze .ensures .bytes
+    after-squeeze .squeeze .ensures .bytes
     ∙ ap (λ (s : Sponge). squeezed s n)
-    (c .before .before .before .before .finish .ensures
-    ∙ ap finished (c .before .before .before .before .before .absorb .ensures ∙ ap (λ (s : Sponge). absorbed s (now (a .input))) (c .before .before .before .before .before .before .new .ensures)))
-    ∙ squeezed-shake (a .rate) (now (a .input)) n (c .before .before .before .before .before .before .before .before .before .pre .0) (c .before .before .before .before .before .before .before .before .before .pre .1)
+    (after-finish .finish .ensures
+    ∙ ap finished (after-absorb .absorb .ensures ∙ ap (λ (s : Sponge). absorbed s (now (a .input))) (after-new .new .ensures)))
+    ∙ squeezed-shake (a .rate) (now (a .input)) n (start .pre .0) (start .pre .1)
 
 pub shake-spec : {M : Type 1} → statement M
 shake-spec =

@@ -1,26 +1,30 @@
 -- `hex::spell` meets its contract: the line is filled byte by byte.
 -- Assumes nothing.
-use mathlib.Core.Path.{_≡_, refl, sym, ap, _∙_}
-use Prim.Native.Nat.{_+_, _*_, _≤_, _-_}
+use mathlib.Core.Path.{refl, ap}
+use Prim.Native.Nat.{_-_}
 use native.Mathlib.Omega.{arith}
-use denote.Ref.{now}
-use lib.ListN.{length, take, getD, length-take, length-drop}
-use lib.Seq.{take-all}
-use Rattle.keccak.proofs.Parts.{fill-more, length-patched}
-use Rattle.keccak.specs.Lists.{concatMap}
+use lib.ListN.{length, length-take, length-drop}
 use Rattle.hex.specs.Digits.{byteDigits, hexadecimal}
+use borrow.Author.Needs.{needs}
+use Rattle.keccak.proofs.Parts.{PartsWritten, parts-begun, parts-more, parts-all}
 use Rattle.hex.proofs.spell.Statement.{statement}
 use Rattle.hex.proofs.spell.Tie as tie
 
 abbrev Inv-loop : tie.InvT-loop
-Inv-loop bytes line₀ i₀ line i = (i ≤ length bytes) × (length line ≡ length line₀) × (take (2 * i) line ≡ concatMap byteDigits (take i bytes))
+Inv-loop bytes line₀ i₀ line i = PartsWritten byteDigits bytes 2 (length bytes) i line
 
 abbrev μ-loop : tie.MeasureT-loop
 μ-loop bytes line₀ i₀ line i = length bytes - i
 
+-- The places of the code that the answers name.
+abbrev Start : Type 0
+Start = tie.Start Inv-loop μ-loop
+
+abbrev Turn : Type 0
+Turn = tie.At-loop Inv-loop μ-loop
+
 loop-holds : tie.Need-loop-holds Inv-loop μ-loop
-unfolding concatMap
-loop-holds c = (omega arith, refl, refl)
+loop-holds c = let start : Start = search in parts-begun refl (omega arith)
 
 shared-slice-read-spell-byte : tie.Need-shared-slice-read-spell-byte Inv-loop μ-loop
 shared-slice-read-spell-byte c = omega arith
@@ -55,25 +59,18 @@ loop-less c = omega arith
 loop-again : tie.Need-loop-again Inv-loop μ-loop
 unfolding byteDigits
 loop-again c =
-    let h = c .before .before .before .before .before .before .loop in
-    let bytes = now (c .before .before .before .before .before .before .before .before .before .args .bytes) in
-    let digits = c .before .before .spell-byte .last .1 .0 in
-    let wrote : digits ≡ byteDigits (getD bytes (h .i) 0) = c .before .before .spell-byte .ensures in
-    let step : 2 * h .i + 2 - 2 * h .i ≡ 2 = omega arith in (
-      omega arith,
-      rw step (length-patched (2 * h .i) 2 digits (h .line) (ap length wrote) (omega arith) ∙ h .inv .1),
-      rw step (fill-more byteDigits bytes 0 2 (h .i) (h .line) digits (omega arith) refl (omega arith) wrote (h .inv .2)),
-    )
+    let turn : Turn = search in
+    let spelt : tie.After-spell-byte Inv-loop μ-loop = search in
+    parts-more (turn .loop .inv) 0 (omega arith) (ap length (spelt .spell-byte .ensures)) (spelt .spell-byte .ensures)
 
 same-length : tie.Need-same-length Inv-loop μ-loop
-same-length c = c .before .loop .inv .1
+same-length c = search needs
 
 returns : tie.Need-returns Inv-loop μ-loop
 unfolding hexadecimal
 returns c =
-    let h = c .before .loop in
-    let bytes = now (c .before .before .before .before .args .bytes) in
-    sym (take-all (2 * h .i) (h .line) (omega arith)) ∙ h .inv .2 ∙ ap (concatMap byteDigits) (take-all (h .i) bytes (omega arith))
+    let turn : Turn = search in
+    parts-all (turn .loop .inv) (omega arith)
 
 pub spell-spec : {M : Type 1} → statement M
 spell-spec =

@@ -30,12 +30,14 @@ same-length c = search needs
 returns : tie.Need-returns
 unfolding byteDigits
 returns c =
-    let line = now (c .before .before .before .args .line) in
-    let high = c .before .digit .result in
+    let start : tie.Start = search in
+    let after-digit : tie.After-digit = search in
+    let line = now (start .args .line) in
+    let high = after-digit .digit .result in
     let low = c .digit2 .result in
     sets-eq (high ∷ low ∷ []) line 0 (omega arith)
     ∙ ap (λ (r : List ℕ). high ∷ low ∷ r) (drop-of-length-le line {i = 2} (omega arith))
-    ∙ ap₂ (λ (h l : ℕ). h ∷ l ∷ []) (c .before .digit .ensures) (c .digit2 .ensures)
+    ∙ ap₂ (λ (h l : ℕ). h ∷ l ∷ []) (after-digit .digit .ensures) (c .digit2 .ensures)
 
 pub spell-byte-spec : {M : Type 1} → statement M
 spell-byte-spec =

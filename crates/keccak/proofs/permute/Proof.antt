@@ -1,9 +1,7 @@
 -- `keccak::permute` meets its contract: the string of the permuted state of the string. Assumes nothing.
-use mathlib.Core.Path.{ap, _∙_}
 use borrow.Author.Needs.{needs}
 use Rattle.keccak.proofs.permute.Statement.{statement}
-use Rattle.keccak.specs.Keccak.{keccakF}
-use Rattle.keccak.specs.Strings.{fromState, permute}
+use Rattle.keccak.specs.Strings.{permute}
 use Rattle.keccak.proofs.permute.Tie as tie
 
 slice-aggregate-to-state : tie.Need-slice-aggregate-to-state
@@ -20,8 +18,7 @@ from-state-requires c κs = search needs
 
 returns : tie.Need-returns
 unfolding permute
-returns c =
-    c .from-state .ensures ∙ ap fromState (c .before .keccak-f .ensures ∙ ap keccakF (c .before .before .to-state .ensures))
+returns c = cc
 
 pub permute-spec : {M : Type 1} → statement M
 permute-spec =

@@ -15,6 +15,27 @@ use borrow.Author.Needs.{needs}
 use Rattle.keys.proofs.keygen.Statement.{statement}
 use Rattle.keys.proofs.keygen.Tie as tie
 
+-- From a place back to one that is far before it.
+abbrev start-of-matrix : tie.After-matrix → tie.Start
+start-of-matrix c = search
+
+abbrev start-of-stored : tie.After-stored → tie.Start
+start-of-stored c = search
+
+abbrev start-of-shake : tie.After-shake → tie.Start
+start-of-shake c = search
+
+abbrev stored-of-shake : tie.After-shake → tie.After-stored
+stored-of-shake c = search
+
+abbrev stored-of-public-polynomials : tie.After-public-polynomials → tie.After-stored
+stored-of-public-polynomials c = search
+
+abbrev shake-of-copy : tie.After-copy → tie.After-shake
+shake-of-copy c = search
+
+ruleset places = (start-of-matrix, start-of-stored, start-of-shake, stored-of-shake, stored-of-public-polynomials, shake-of-copy)
+
 matrix-requires : tie.Need-matrix-requires
 matrix-requires c κs = search needs
 
@@ -38,8 +59,9 @@ slice-relend-prefix-shake c = search needs
 
 slice-aggregate-shake : tie.Need-slice-aggregate-shake
 slice-aggregate-shake c =
-    let pre = c .before .before .before .before .before .before .before .before .before .before .before .before .pre in
-    simp length-take (omega (arith, c .before .before .before .before .before .matrix .ensures .0, pre .work-long))
+    let start : tie.Start = search in
+    let after-matrix : tie.After-matrix = search in
+    simp length-take (omega (arith, after-matrix .matrix .ensures .0, start .pre .work-long))
 
 shake-requires : tie.Need-shake-requires
 shake-requires c κs = search needs
@@ -60,64 +82,119 @@ slice-reshare-prefix-public-polynomials : tie.Need-slice-reshare-prefix-public-p
 slice-reshare-prefix-public-polynomials c = search needs
 
 -- Both streams, in the work area.
-streams-fit : (c : tie.After-secrets) → c .before .matrix .result + c .secrets .result ≤ length (now (c .before .before .before .before .before .before .before .before .args .work))
-streams-fit c = omega (arith, c .before .matrix .ensures .0, c .secrets .ensures .0, c .before .before .before .before .before .before .before .before .pre .work-long)
+streams-fit : (c : tie.After-secrets) →
+    let start : tie.Start = search in
+    let after-matrix : tie.After-matrix = search in
+    after-matrix .matrix .result + c .secrets .result ≤ length (now (start .args .work))
+streams-fit c =
+    let start : tie.Start = search in
+    let after-matrix : tie.After-matrix = search in
+    omega (arith, after-matrix .matrix .ensures .0, c .secrets .ensures .0, start .pre .work-long)
 
 abbrev written : tie.After-shake2 → List ℕ
 written c =
-    let m : ℕ = c .before .before .before .before .before .before .before .before .before .before .matrix .result in
-    let s : ℕ = c .before .before .before .before .before .before .before .before .before .secrets .result in
-    take (m + s) (patched m (m + s - m) (c .shake2 .last .1 .1 .0) (c .before .before .before .before .shake .last .1 .1 .0 ++ drop m (now (c .before .before .before .before .before .before .before .before .before .before .before .before .before .before .before .before .before .args .work))))
+    let start : tie.Start = search in
+    let after-matrix : tie.After-matrix = search in
+    let after-secrets : tie.After-secrets = search in
+    let after-shake : tie.After-shake = search in
+    let m : ℕ = after-matrix .matrix .result in
+    let s : ℕ = after-secrets .secrets .result in
+    take (m + s) (patched m (m + s - m) (c .shake2 .last .1 .1 .0) (after-shake .shake .last .1 .1 .0 ++ drop m (now (start .args .work))))
 
-streams : (c : tie.After-shake2) → written c ≡ keyStreams (c .before .before .before .before .before .before .before .before .before .before .before .before .before .before .before .before .before .args .p) (now (c .before .before .before .before .before .before .before .before .before .before .before .before .before .before .before .before .before .args .mu)) (now (c .before .before .before .before .before .before .before .before .before .before .before .before .before .before .before .before .before .args .gamma))
+streams : (c : tie.After-shake2) →
+    let start : tie.Start = search in
+    written c ≡ keyStreams (start .args .p) (now (start .args .mu)) (now (start .args .gamma))
 streams c =
-    let a = c .before .before .before .before .before .before .before .before .before .before .before .before .before .before .before .before .before .args in
-    streams-made (a .p) (now (a .work)) (now (a .mu)) (now (a .gamma)) (c .before .before .before .before .before .before .before .before .before .before .matrix .ensures .0) (c .before .before .before .before .before .before .before .before .before .secrets .ensures .0) (streams-fit (c .before .before .before .before .before .before .before .before .before)) (c .before .before .before .before .shake .ensures) (c .shake2 .ensures)
+    let start : tie.Start = search in
+    let after-matrix : tie.After-matrix = search in
+    let after-secrets : tie.After-secrets = search in
+    let after-shake : tie.After-shake = search in
+    let a = start .args in
+    streams-made (a .p) (now (a .work)) (now (a .mu)) (now (a .gamma)) (after-matrix .matrix .ensures .0)
+    (after-secrets .secrets .ensures .0) (streams-fit after-secrets) (after-shake .shake .ensures) (c .shake2 .ensures)
 
-streams-size : (c : tie.After-shake2) → length (written c) ≡ keygenWork (c .before .before .before .before .before .before .before .before .before .before .before .before .before .before .before .before .before .args .p)
-streams-size c = ap length (streams c) ∙ streams-long (c .before .before .before .before .before .before .before .before .before .before .before .before .before .before .before .before .before .args .p) (now (c .before .before .before .before .before .before .before .before .before .before .before .before .before .before .before .before .before .args .mu)) (now (c .before .before .before .before .before .before .before .before .before .before .before .before .before .before .before .before .before .args .gamma))
+streams-size : (c : tie.After-shake2) →
+    let start : tie.Start = search in
+    length (written c) ≡ keygenWork (start .args .p)
+streams-size c =
+    let start : tie.Start = search in
+    ap length (streams c) ∙ streams-long (start .args .p) (now (start .args .mu)) (now (start .args .gamma))
 
 -- The stored polynomials, the public key, and γ after it have room.
-public-part : (c : tie.After-stored) → length (take (c .stored .result) (now (c .before .before .before .before .before .before .before .before .before .args .pk))) ≡ c .stored .result
-public-part c = simp length-take (omega (arith, c .stored .ensures .0, c .before .before .before .before .before .before .before .before .before .pre .public-long))
+public-part : (c : tie.After-stored) →
+    let start : tie.Start = search in
+    length (take (c .stored .result) (now (start .args .pk))) ≡ c .stored .result
+public-part c =
+    let start : tie.Start = search in
+    simp length-take (omega (arith, c .stored .ensures .0, start .pre .public-long))
 
-secret-fits : (c : tie.After-stored) → c .stored .result + c .before .before .before .before .before .before .before .before .before .args .p .seed + c .before .before .before .before .before .before .before .before .before .args .p .seed ≤ length (now (c .before .before .before .before .before .before .before .before .before .args .sk))
-secret-fits c = omega (arith, c .stored .ensures .0, c .before .before .before .before .before .before .before .before .before .pre .secret-long)
+secret-fits : (c : tie.After-stored) →
+    let start : tie.Start = search in
+    c .stored .result + start .args .p .seed + start .args .p .seed ≤ length (now (start .args .sk))
+secret-fits c =
+    let start : tie.Start = search in
+    omega (arith, c .stored .ensures .0, start .pre .secret-long)
 
-secret-part : (c : tie.After-stored) → length (take (c .stored .result + c .before .before .before .before .before .before .before .before .before .args .p .seed) (now (c .before .before .before .before .before .before .before .before .before .args .sk))) ≡ c .stored .result + c .before .before .before .before .before .before .before .before .before .args .p .seed
+secret-part : (c : tie.After-stored) →
+    let start : tie.Start = search in
+    length (take (c .stored .result + start .args .p .seed) (now (start .args .sk))) ≡ c .stored .result + start .args .p .seed
 secret-part c = simp length-take (omega (arith, secret-fits c))
 
-stored-size : (c : tie.After-public-polynomials) → length (c .public-polynomials .last .1 .1 .1 .0) ≡ c .before .before .before .before .before .before .before .before .before .before .before .before .before .stored .result
-stored-size c = c .public-polynomials .kept .1 .1 .1 .0 ∙ public-part (c .before .before .before .before .before .before .before .before .before .before .before .before .before)
+stored-size : (c : tie.After-public-polynomials) →
+    let after-stored : tie.After-stored = search in
+    length (c .public-polynomials .last .1 .1 .1 .0) ≡ after-stored .stored .result
+stored-size c = c .public-polynomials .kept .1 .1 .1 .0 ∙ public-part (search)
 
 -- The secret key once the public key is written, and once γ is.
 abbrev begun : tie.After-copy2 → List ℕ
-begun c = c .copy2 .last .0 ++ drop (c .before .before .before .before .before .before .before .before .before .before .before .before .before .before .before .before .before .before .before .before .before .before .stored .result + c .before .before .before .before .before .before .before .before .before .before .before .before .before .before .before .before .before .before .before .before .before .before .before .before .before .before .before .before .before .before .before .args .p .seed) (now (c .before .before .before .before .before .before .before .before .before .before .before .before .before .before .before .before .before .before .before .before .before .before .before .before .before .before .before .before .before .before .before .args .sk))
+begun c =
+    let after-stored : tie.After-stored = search in
+    let start : tie.Start = search in
+    c .copy2 .last .0 ++ drop (after-stored .stored .result + start .args .p .seed) (now (start .args .sk))
 
-begun-same : (c : tie.After-copy2) → length (begun c) ≡ length (now (c .before .before .before .before .before .before .before .before .before .before .before .before .before .before .before .before .before .before .before .before .before .before .before .before .before .before .before .before .before .before .before .args .sk))
-begun-same c = first-same (c .before .before .before .before .before .before .before .before .before .before .before .before .before .before .before .before .before .before .before .before .before .before .stored .result + c .before .before .before .before .before .before .before .before .before .before .before .before .before .before .before .before .before .before .before .before .before .before .before .before .before .before .before .before .before .before .before .args .p .seed) (c .copy2 .last .0) (now (c .before .before .before .before .before .before .before .before .before .before .before .before .before .before .before .before .before .before .before .before .before .before .before .before .before .before .before .before .before .before .before .args .sk)) (c .copy2 .kept .0)
+begun-same : (c : tie.After-copy2) →
+    let start : tie.Start = search places in
+    length (begun c) ≡ length (now (start .args .sk))
+begun-same c =
+    let after-stored : tie.After-stored = search in
+    let start : tie.Start = search in
+    first-same (after-stored .stored .result + start .args .p .seed) (c .copy2 .last .0) (now (start .args .sk)) (c .copy2 .kept .0)
 
 abbrev later : tie.After-copy3 → List ℕ
 later c =
-    let q : ℕ = c .before .before .before .before .before .before .before .before .before .before .before .before .before .before .before .before .before .before .before .before .before .before .before .before .before .before .stored .result + c .before .before .before .before .before .before .before .before .before .before .before .before .before .before .before .before .before .before .before .before .before .before .before .before .before .before .before .before .before .before .before .before .before .before .before .args .p .seed in
-    patched q (q + c .before .before .before .before .before .before .before .before .before .before .before .before .before .before .before .before .before .before .before .before .before .before .before .before .before .before .before .before .before .before .before .before .before .before .before .args .p .seed - q) (c .copy3 .last .0) (begun (c .before .before .before .before))
+    let start : tie.Start = search places in
+    let after-stored : tie.After-stored = search places in
+    let q : ℕ = after-stored .stored .result + start .args .p .seed in
+    patched q (q + start .args .p .seed - q) (c .copy3 .last .0) (begun (search))
 
-later-same : (c : tie.After-copy3) → length (later c) ≡ length (now (c .before .before .before .before .before .before .before .before .before .before .before .before .before .before .before .before .before .before .before .before .before .before .before .before .before .before .before .before .before .before .before .before .before .before .before .args .sk))
+later-same : (c : tie.After-copy3) →
+    let start : tie.Start = search places in
+    length (later c) ≡ length (now (start .args .sk))
 later-same c =
-    let p = c .before .before .before .before .before .before .before .before .before .before .before .before .before .before .before .before .before .before .before .before .before .before .before .before .before .before .before .before .before .before .before .before .before .before .before .args .p in
-    next-same (c .before .before .before .before .before .before .before .before .before .before .before .before .before .before .before .before .before .before .before .before .before .before .before .before .before .before .stored .result + p .seed) (p .seed) (c .before .before .before .before .copy2 .last .0) (c .copy3 .last .0) (now (c .before .before .before .before .before .before .before .before .before .before .before .before .before .before .before .before .before .before .before .before .before .before .before .before .before .before .before .before .before .before .before .before .before .before .before .args .sk)) (secret-fits (c .before .before .before .before .before .before .before .before .before .before .before .before .before .before .before .before .before .before .before .before .before .before .before .before .before .before)) (c .before .before .before .before .copy2 .kept .0) (c .copy3 .kept .0)
+    let start : tie.Start = search places in
+    let after-stored : tie.After-stored = search places in
+    let after-copy2 : tie.After-copy2 = search in
+    let p = start .args .p in
+    next-same (after-stored .stored .result + p .seed) (p .seed) (after-copy2 .copy2 .last .0) (c .copy3 .last .0) (now (start .args .sk))
+    (secret-fits after-stored) (after-copy2 .copy2 .kept .0) (c .copy3 .kept .0)
 
 slice-aggregate-public-polynomials : tie.Need-slice-aggregate-public-polynomials
-slice-aggregate-public-polynomials c = sym (streams-size (c .before .before .before) ∙ ap₂ _+_ (sym (c .before .before .before .before .before .before .before .before .before .before .before .before .before .matrix .ensures .0)) (sym (c .before .before .before .before .before .before .before .before .before .before .before .before .secrets .ensures .0)))
+slice-aggregate-public-polynomials c =
+    let after-matrix : tie.After-matrix = search in
+    let after-secrets : tie.After-secrets = search in
+    sym (streams-size (search) ∙ ap₂ _+_ (sym (after-matrix .matrix .ensures .0)) (sym (after-secrets .secrets .ensures .0)))
 
 slice-relend-prefix-public-polynomials : tie.Need-slice-relend-prefix-public-polynomials
 slice-relend-prefix-public-polynomials c = search needs
 
 slice-aggregate-public-polynomials-2 : tie.Need-slice-aggregate-public-polynomials-2
-slice-aggregate-public-polynomials-2 c = sym (public-part (c .before .before .before .before .before .before .before .before .before .before .before .before))
+slice-aggregate-public-polynomials-2 c = sym (public-part (search))
 
 public-polynomials-requires : tie.Need-public-polynomials-requires
-public-polynomials-requires c κs = (c .before .before .before .before .before .before .before .before .before .before .before .before .before .before .before .before .before .before .before .before .before .pre .well, c .before .before .before .before .before .before .before .before .before .before .before .before .before .before .before .before .before .before .before .before .before .pre .well .kept, streams-size (c .before .before .before .before), public-part (c .before .before .before .before .before .before .before .before .before .before .before .before) ∙ c .before .before .before .before .before .before .before .before .before .before .before .before .stored .ensures .0)
+public-polynomials-requires c κs =
+    let start : tie.Start = search in
+    let after-stored : tie.After-stored = search in
+    (start .pre .well, start .pre .well .kept, streams-size (search), public-part after-stored ∙ after-stored .stored .ensures .0)
 
 sub-copy : tie.Need-sub-copy
 sub-copy c = search needs
@@ -130,28 +207,43 @@ part-copy-end c = search needs
 
 copy-requires : tie.Need-copy-requires
 copy-requires c κs =
-    let n : ℕ = c .before .before .before .before .before .before .before .before .before .before .before .before .before .before .before .before .stored .result in
-    let pre = c .before .before .before .before .before .before .before .before .before .before .before .before .before .before .before .before .before .before .before .before .before .before .before .before .before .pre in
-    let pk = now (c .before .before .before .before .before .before .before .before .before .before .before .before .before .before .before .before .before .before .before .before .before .before .before .before .before .args .pk) in
-    let stored : List ℕ = c .before .before .before .public-polynomials .last .1 .1 .1 .0 in
-    let same = first-same n stored pk (c .before .before .before .public-polynomials .kept .1 .1 .1 .0) in
-    rest-is n (c .before .before .before .before .before .before .before .before .before .before .before .before .before .before .before .before .before .before .before .before .before .before .before .before .before .args .p .seed) (stored ++ drop n pk) (omega (arith, same, c .before .before .before .before .before .before .before .before .before .before .before .before .before .before .before .before .stored .ensures .0, pre .public-long)) ∙ sym (pre .μ-long)
+    let start : tie.Start = search places in
+    let after-stored : tie.After-stored = search in
+    let after-public-polynomials : tie.After-public-polynomials = search in
+    let n : ℕ = after-stored .stored .result in
+    let pre = start .pre in
+    let pk = now (start .args .pk) in
+    let stored : List ℕ = after-public-polynomials .public-polynomials .last .1 .1 .1 .0 in
+    let same = first-same n stored pk (after-public-polynomials .public-polynomials .kept .1 .1 .1 .0) in
+    rest-is n (start .args .p .seed) (stored ++ drop n pk) (omega (arith, same, after-stored .stored .ensures .0, pre .public-long)) ∙
+    sym (pre .μ-long)
 
 slice-relend-prefix-copy : tie.Need-slice-relend-prefix-copy
-slice-relend-prefix-copy c = omega (arith, secret-fits (c .before .before .before .before .before .before .before .before .before .before .before .before .before .before .before .before .before .before .before))
+slice-relend-prefix-copy c = omega (arith, secret-fits (search))
 
 slice-aggregate-copy : tie.Need-slice-aggregate-copy
-slice-aggregate-copy c = sym (secret-part (c .before .before .before .before .before .before .before .before .before .before .before .before .before .before .before .before .before .before .before .before))
+slice-aggregate-copy c = sym (secret-part (search))
 
 copy-requires-2 : tie.Need-copy-requires-2
 copy-requires-2 c κs =
-    let n : ℕ = c .before .before .before .before .before .before .before .before .before .before .before .before .before .before .before .before .before .before .before .before .before .stored .result in
-    let pre = c .before .before .before .before .before .before .before .before .before .before .before .before .before .before .before .before .before .before .before .before .before .before .before .before .before .before .before .before .before .before .pre in
-    let stored : List ℕ = c .before .before .before .before .before .before .before .before .public-polynomials .last .1 .1 .1 .0 in
-    let seed : List ℕ = c .before .before .before .before .copy .last .0 in
-    let long = stored-size (c .before .before .before .before .before .before .before .before) in
-    let whole = ap length (then-rest n (now (c .before .before .before .before .before .before .before .before .before .before .before .before .before .before .before .before .before .before .before .before .before .before .before .before .before .before .before .before .before .before .args .pk)) stored seed long) ∙ length-append stored seed in
-    secret-part (c .before .before .before .before .before .before .before .before .before .before .before .before .before .before .before .before .before .before .before .before .before) ∙ sym (whole ∙ ap₂ _+_ long (ap length (c .before .before .before .before .copy .ensures) ∙ pre .μ-long))
+    let n : ℕ = after-stored .stored .result in
+    let stored : List ℕ = after-public-polynomials .public-polynomials .last .1 .1 .1 .0 in
+    let seed : List ℕ = after-copy .copy .last .0 in
+    let long = stored-size after-public-polynomials in
+    let whole = ap length (then-rest n (now (start .args .pk)) stored seed long) ∙ length-append stored seed in
+    secret-part after-stored ∙ sym (whole ∙ ap₂ _+_ long (ap length (after-copy .copy .ensures) ∙ start .pre .μ-long))
+  where
+    start : tie.Start
+    start = search places
+
+    after-stored : tie.After-stored
+    after-stored = search
+
+    after-public-polynomials : tie.After-public-polynomials
+    after-public-polynomials = search
+
+    after-copy : tie.After-copy
+    after-copy = search
 
 sub-copy-2 : tie.Need-sub-copy-2
 sub-copy-2 c = search needs
@@ -160,58 +252,106 @@ part-copy-start-2 : tie.Need-part-copy-start-2
 part-copy-start-2 c = search needs
 
 part-copy-end-2 : tie.Need-part-copy-end-2
-part-copy-end-2 c = omega (arith, secret-fits (c .before .before .before .before .before .before .before .before .before .before .before .before .before .before .before .before .before .before .before .before .before .before .before .before), begun-same (c .before .before))
+part-copy-end-2 c = omega (arith, secret-fits (search), begun-same (search))
 
 copy-requires-3 : tie.Need-copy-requires-3
 copy-requires-3 c κs =
-    let p = c .before .before .before .before .before .before .before .before .before .before .before .before .before .before .before .before .before .before .before .before .before .before .before .before .before .before .before .before .before .before .before .before .before .before .args .p in
-    part-length (c .before .before .before .before .before .before .before .before .before .before .before .before .before .before .before .before .before .before .before .before .before .before .before .before .before .stored .result + p .seed) (p .seed) _ (rw (begun-same (c .before .before .before)) (secret-fits (c .before .before .before .before .before .before .before .before .before .before .before .before .before .before .before .before .before .before .before .before .before .before .before .before .before))) ∙ sym (c .before .before .before .before .before .before .before .before .before .before .before .before .before .before .before .before .before .before .before .before .before .before .before .before .before .before .before .before .before .before .before .before .before .before .pre .γ-long)
+    let start : tie.Start = search places in
+    let after-stored : tie.After-stored = search places in
+    let p = start .args .p in
+    part-length (after-stored .stored .result + p .seed) (p .seed) _ (rw (begun-same (search)) (secret-fits after-stored)) ∙
+    sym (start .pre .γ-long)
 
 sub-copy-3 : tie.Need-sub-copy-3
-sub-copy-3 c = omega (arith, secret-fits (c .before .before .before .before .before .before .before .before .before .before .before .before .before .before .before .before .before .before .before .before .before .before .before .before .before .before .before .before), later-same (c .before .before))
+sub-copy-3 c = omega (arith, secret-fits (search places), later-same (search))
 
 part-copy-start-3 : tie.Need-part-copy-start-3
-part-copy-start-3 c = omega (arith, secret-fits (c .before .before .before .before .before .before .before .before .before .before .before .before .before .before .before .before .before .before .before .before .before .before .before .before .before .before .before .before), later-same (c .before .before))
+part-copy-start-3 c = omega (arith, secret-fits (search places), later-same (search))
 
 part-copy-end-3 : tie.Need-part-copy-end-3
 part-copy-end-3 c = search needs
 
 copy-requires-4 : tie.Need-copy-requires-4
 copy-requires-4 c κs =
-    let p = c .before .before .before .before .before .before .before .before .before .before .before .before .before .before .before .before .before .before .before .before .before .before .before .before .before .before .before .before .before .before .before .before .before .before .before .before .before .before .args .p in
-    let pre = c .before .before .before .before .before .before .before .before .before .before .before .before .before .before .before .before .before .before .before .before .before .before .before .before .before .before .before .before .before .before .before .before .before .before .before .before .before .before .pre in
-    rest-is (c .before .before .before .before .before .before .before .before .before .before .before .before .before .before .before .before .before .before .before .before .before .before .before .before .before .before .before .before .before .stored .result + p .seed + p .seed) (p .seed) (later (c .before .before .before)) (omega (arith, later-same (c .before .before .before), c .before .before .before .before .before .before .before .before .before .before .before .before .before .before .before .before .before .before .before .before .before .before .before .before .before .before .before .before .before .stored .ensures .0, pre .secret-long)) ∙ sym (pre .z-long)
+    let start : tie.Start = search places in
+    let after-stored : tie.After-stored = search places in
+    let after-copy3 : tie.After-copy3 = search in
+    let p = start .args .p in
+    let pre = start .pre in
+    rest-is (after-stored .stored .result + p .seed + p .seed) (p .seed) (later after-copy3)
+    (omega (arith, later-same after-copy3, after-stored .stored .ensures .0, pre .secret-long)) ∙ sym (pre .z-long)
 
 same-length : tie.Need-same-length
 same-length c =
-    let a = c .before .before .before .before .before .before .before .before .before .before .before .before .before .before .before .before .before .before .before .before .before .before .before .before .before .before .before .before .before .before .before .before .before .before .before .before .before .before .before .before .before .args in
-    let pre = c .before .before .before .before .before .before .before .before .before .before .before .before .before .before .before .before .before .before .before .before .before .before .before .before .before .before .before .before .before .before .before .before .before .before .before .before .before .before .before .before .before .pre in
-    let n : ℕ = c .before .before .before .before .before .before .before .before .before .before .before .before .before .before .before .before .before .before .before .before .before .before .before .before .before .before .before .before .before .before .before .before .stored .result in
-    let is = c .before .before .before .before .before .before .before .before .before .before .before .before .before .before .before .before .before .before .before .before .before .before .before .before .before .before .before .before .before .before .before .before .stored .ensures .0 in
-    let stored : List ℕ = c .before .before .before .before .before .before .before .before .before .before .before .before .before .before .before .before .before .before .before .public-polynomials .last .1 .1 .1 .0 in
-    let first = first-same n stored (now (a .pk)) (c .before .before .before .before .before .before .before .before .before .before .before .before .before .before .before .before .before .before .before .public-polynomials .kept .1 .1 .1 .0) in
-    rest-same n (c .before .before .before .before .before .before .before .before .before .before .before .before .before .before .before .copy .last .0) (stored ++ drop n (now (a .pk))) (omega (arith, first, is, pre .public-long)) (c .before .before .before .before .before .before .before .before .before .before .before .before .before .before .before .copy .kept .0) ∙ first
+    let after-copy : tie.After-copy = search in
+    let after-public-polynomials : tie.After-public-polynomials = search in
+    let after-stored : tie.After-stored = search places in
+    let start : tie.Start = search places in
+    let a = start .args in
+    let n : ℕ = after-stored .stored .result in
+    let stored : List ℕ = after-public-polynomials .public-polynomials .last .1 .1 .1 .0 in
+    let first = first-same n stored (now (a .pk)) (after-public-polynomials .public-polynomials .kept .1 .1 .1 .0) in
+    rest-same n (after-copy .copy .last .0) (stored ++ drop n (now (a .pk)))
+    (omega (arith, first, (after-stored .stored .ensures .0), start .pre .public-long)) (after-copy .copy .kept .0) ∙ first
 
 same-length-2 : tie.Need-same-length-2
 same-length-2 c =
-    let p = c .before .before .before .before .before .before .before .before .before .before .before .before .before .before .before .before .before .before .before .before .before .before .before .before .before .before .before .before .before .before .before .before .before .before .before .before .before .before .before .before .before .args .p in
-    let same = later-same (c .before .before .before .before .before .before) in
-    rest-same (c .before .before .before .before .before .before .before .before .before .before .before .before .before .before .before .before .before .before .before .before .before .before .before .before .before .before .before .before .before .before .before .before .stored .result + p .seed + p .seed) (c .before .before .copy4 .last .0) (later (c .before .before .before .before .before .before)) (omega (arith, same, secret-fits (c .before .before .before .before .before .before .before .before .before .before .before .before .before .before .before .before .before .before .before .before .before .before .before .before .before .before .before .before .before .before .before .before))) (c .before .before .copy4 .kept .0) ∙ same
+    let start : tie.Start = search places in
+    let after-stored : tie.After-stored = search places in
+    let after-copy3 : tie.After-copy3 = search in
+    let after-copy4 : tie.After-copy4 = search in
+    let p = start .args .p in
+    let same = later-same after-copy3 in
+    rest-same (after-stored .stored .result + p .seed + p .seed) (after-copy4 .copy4 .last .0) (later after-copy3)
+    (omega (arith, same, secret-fits after-stored)) (after-copy4 .copy4 .kept .0) ∙ same
 
 same-length-3 : tie.Need-same-length-3
 same-length-3 c =
-    next-same (c .before .before .before .before .before .before .before .before .before .before .before .before .before .before .before .before .before .before .before .before .before .before .before .before .before .before .before .before .before .before .before .before .before .before .matrix .result) (c .before .before .before .before .before .before .before .before .before .before .before .before .before .before .before .before .before .before .before .before .before .before .before .before .before .before .before .before .before .before .before .before .before .secrets .result) (c .before .before .before .before .before .before .before .before .before .before .before .before .before .before .before .before .before .before .before .before .before .before .before .before .before .before .before .before .shake .last .1 .1 .0) (c .before .before .before .before .before .before .before .before .before .before .before .before .before .before .before .before .before .before .before .before .before .before .before .before .shake2 .last .1 .1 .0) (now (c .before .before .before .before .before .before .before .before .before .before .before .before .before .before .before .before .before .before .before .before .before .before .before .before .before .before .before .before .before .before .before .before .before .before .before .before .before .before .before .before .before .args .work)) (streams-fit (c .before .before .before .before .before .before .before .before .before .before .before .before .before .before .before .before .before .before .before .before .before .before .before .before .before .before .before .before .before .before .before .before .before))
-    (c .before .before .before .before .before .before .before .before .before .before .before .before .before .before .before .before .before .before .before .before .before .before .before .before .before .before .before .before .shake .kept .1 .1 .0) (c .before .before .before .before .before .before .before .before .before .before .before .before .before .before .before .before .before .before .before .before .before .before .before .before .shake2 .kept .1 .1 .0)
+    let after-shake2 : tie.After-shake2 = search in
+    let after-shake : tie.After-shake = search in
+    let after-secrets : tie.After-secrets = search in
+    let after-matrix : tie.After-matrix = search in
+    let start : tie.Start = search places in
+    next-same (after-matrix .matrix .result) (after-secrets .secrets .result) (after-shake .shake .last .1 .1 .0)
+    (after-shake2 .shake2 .last .1 .1 .0) (now (start .args .work)) (streams-fit after-secrets)
+    (after-shake .shake .kept .1 .1 .0) (after-shake2 .shake2 .kept .1 .1 .0)
 
 returns : tie.Need-returns
 returns c =
-    let a = c .before .before .before .before .before .before .before .before .before .before .before .before .before .before .before .before .before .before .before .before .before .before .before .before .before .before .before .before .before .before .before .before .before .before .before .before .before .before .before .before .before .args in
+    let a = start .args in
     let p = a .p in
-    let public = public-made p (now (a .mu)) (now (a .gamma)) (now (a .pk)) _ (stored-size (c .before .before .before .before .before .before .before .before .before .before .before .before .before .before .before .before .before .before .before)) (streams (c .before .before .before .before .before .before .before .before .before .before .before .before .before .before .before .before .before .before .before .before .before .before .before .before)) (c .before .before .before .before .before .before .before .before .before .before .before .before .before .before .before .before .before .before .before .public-polynomials .ensures) (c .before .before .before .before .before .before .before .before .before .before .before .before .before .before .before .copy .ensures) in (
+    let public = public-made p (now (a .mu)) (now (a .gamma)) (now (a .pk)) _ (stored-size after-public-polynomials) (streams after-shake2)
+    (after-public-polynomials .public-polynomials .ensures) (after-copy .copy .ensures) in (
       public,
-      secret-made p (now (a .mu)) (now (a .gamma)) (now (a .z)) (now (a .sk)) (c .before .before .before .before .before .before .before .before .before .before .before .before .before .before .before .before .before .before .before .before .before .before .before .before .before .before .before .before .before .before .before .before .stored .result + p .seed) (p .seed) (c .before .before .before .before .before .before .before .before .before .before .copy2 .kept .0 ∙ secret-part (c .before .before .before .before .before .before .before .before .before .before .before .before .before .before .before .before .before .before .before .before .before .before .before .before .before .before .before .before .before .before .before .before))
-          (ap length (c .before .before .before .before .before .before .copy3 .ensures) ∙ c .before .before .before .before .before .before .before .before .before .before .before .before .before .before .before .before .before .before .before .before .before .before .before .before .before .before .before .before .before .before .before .before .before .before .before .before .before .before .before .before .before .pre .γ-long) (secret-fits (c .before .before .before .before .before .before .before .before .before .before .before .before .before .before .before .before .before .before .before .before .before .before .before .before .before .before .before .before .before .before .before .before)) (c .before .before .before .before .before .before .before .before .before .before .copy2 .ensures ∙ public) (c .before .before .before .before .before .before .copy3 .ensures) (c .before .before .copy4 .ensures),
+      secret-made p (now (a .mu)) (now (a .gamma)) (now (a .z)) (now (a .sk)) (after-stored .stored .result + p .seed) (p .seed)
+          (after-copy2 .copy2 .kept .0 ∙ secret-part after-stored)
+          (ap length (after-copy3 .copy3 .ensures) ∙ start .pre .γ-long) (secret-fits after-stored) (after-copy2 .copy2 .ensures ∙ public)
+          (after-copy3 .copy3 .ensures) (after-copy4 .copy4 .ensures),
     )
+  where
+    start : tie.Start
+    start = search places
+
+    after-stored : tie.After-stored
+    after-stored = search places
+
+    after-shake2 : tie.After-shake2
+    after-shake2 = search
+
+    after-public-polynomials : tie.After-public-polynomials
+    after-public-polynomials = search
+
+    after-copy : tie.After-copy
+    after-copy = search
+
+    after-copy2 : tie.After-copy2
+    after-copy2 = search
+
+    after-copy3 : tie.After-copy3
+    after-copy3 = search
+
+    after-copy4 : tie.After-copy4
+    after-copy4 = search
 
 pub keygen-spec : {M : Type 1} → statement M
 keygen-spec =

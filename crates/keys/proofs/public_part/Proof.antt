@@ -27,10 +27,18 @@ sub-pack c = search needs
 
 pack-requires : tie.Need-pack-requires
 pack-requires c κs =
-    let p = c .before .before .before .before .before .before .before .before .before .before .before .before .before .before .before .before .before .before .before .before .args .p in
-    let pre = c .before .before .before .before .before .before .before .before .before .before .before .before .before .before .before .before .before .before .before .before .pre in
-    let long : length (now (c .before .before .before .before .before .before .before .before .before .before .before .before .before .before .before .before .before .before .before .before .args .acc)) ≡ p .n = pre .0 .sum in
-    (omega (arith, pre .0 .well .word), fills p (pre .0 .well) (p .k - c .before .before .before .before .before .before .before .before .before .before .before .before .before .before .before .before .before .before .before .before .args .t) (c .before .before .before .before .before .compress .kept .0 ∙ c .before .before .before .before .before .before .before .before .before .reduce .kept .0 ∙ c .before .before .before .before .before .before .before .before .before .before .before .before .before .sum-part .kept .1 .1 .1 .1 .0 ∙ long) (pre .2))
+    let start : tie.Start = search in
+    let after-sum-part : tie.After-sum-part = search in
+    let after-reduce : tie.After-reduce = search in
+    let after-compress : tie.After-compress = search in
+    let p = start .args .p in
+    let pre = start .pre in
+    let long : length (now (start .args .acc)) ≡ p .n = pre .0 .sum in (
+      omega (arith, pre .0 .well .word),
+      fills p (pre .0 .well) (p .k - start .args .t)
+          (after-compress .compress .kept .0 ∙ after-reduce .reduce .kept .0 ∙ after-sum-part .sum-part .kept .1 .1 .1 .1 .0 ∙ long)
+          (pre .2),
+    )
 
 same-length : tie.Need-same-length
 same-length c = search needs
@@ -40,11 +48,16 @@ same-length-2 c = search needs
 
 returns : tie.Need-returns
 returns c =
-    let a = c .before .before .before .before .before .before .before .before .before .before .before .before .before .before .before .before .before .before .before .before .before .before .before .args in
+    let after-pack : tie.After-pack = search in
+    let after-compress : tie.After-compress = search in
+    let after-reduce : tie.After-reduce = search in
+    let after-sum-part : tie.After-sum-part = search in
+    let start : tie.Start = search in
+    let a = start .args in
     let p = a .p in
     let sum : List ℕ = sumPart p (now (a .errors)) (now (a .f)) (now (a .r)) in
-    packed-sum (p .k) (a .t) (omega (arith, c .before .before .before .before .before .before .before .before .before .before .before .before .before .before .before .before .before .before .before .before .before .before .before .pre .1)) sum
-    (c .before .before .before .before .before .before .before .before .before .before .before .before .before .before .before .before .sum-part .ensures) (c .before .before .before .before .before .before .before .before .before .before .before .before .reduce .ensures) (c .before .before .before .before .before .before .before .before .compress .ensures) (c .before .before .pack .ensures)
+    packed-sum (p .k) (a .t) (omega (arith, start .pre .1)) sum
+    (after-sum-part .sum-part .ensures) (after-reduce .reduce .ensures) (after-compress .compress .ensures) (after-pack .pack .ensures)
 
 pub public-part-spec : {M : Type 1} → statement M
 public-part-spec =

@@ -47,33 +47,44 @@ array-borrow-prefix-r c = search needs
 
 slice-aggregate-small : tie.Need-slice-aggregate-small
 slice-aggregate-small c =
-    let a = c .before .before .before .before .before .before .before .before .before .before .args in
-    let p = a .p in
-    let pre = c .before .before .before .before .before .before .before .before .before .before .pre in
-    let W = pre .0 in
-    let taken : length (take (p .l * p .n) (c .before .before .before .before .before .zeros .result)) ≡ p .l * p .n =
-    let long : length (c .before .before .before .before .before .zeros .result) ≡ 1536 = search needs in
+    let start : tie.Start = search in
+    let after-zeros : tie.After-zeros = search in
+    let p = start .args .p in
+    let W = start .pre .0 in
+    let taken : length (take (p .l * p .n) (after-zeros .zeros .result)) ≡ p .l * p .n =
+    let long : length (after-zeros .zeros .result) ≡ 1536 = search needs in
     simp length-take (omega (arith, long, W .vector)) in
     sym taken
 
 small-requires : tie.Need-small-requires
 small-requires c κs =
-    let a = c .before .before .before .before .before .before .before .before .before .before .args in
+    let start : tie.Start = search in
+    let after-matrix : tie.After-matrix = search in
+    let after-zeros : tie.After-zeros = search in
+    let after-width : tie.After-width = search in
+    let a = start .args in
     let p = a .p in
-    let pre = c .before .before .before .before .before .before .before .before .before .before .pre in
+    let pre = start .pre in
     let W = pre .0 in
-    let taken : length (take (p .l * p .n) (c .before .before .before .before .before .zeros .result)) ≡ p .l * p .n =
-    let long : length (c .before .before .before .before .before .zeros .result) ≡ 1536 = search needs in
+    let taken : length (take (p .l * p .n) (after-zeros .zeros .result)) ≡ p .l * p .n =
+    let long : length (after-zeros .zeros .result) ≡ 1536 = search needs in
     simp length-take (omega (arith, long, W .vector)) in
-    let wide = c .before .before .width .ensures in
-    let m = c .before .before .before .before .before .before .matrix .result in
-    let room : m + lengthOf p (p .l) (width p) ≤ length (now (a .streams)) = omega (arith, c .before .before .before .before .before .before .matrix .ensures .0, pre .2, length-le p {a = p .l} {b = 2 * p .l} (width p) (omega arith)) in
+    let wide = after-width .width .ensures in
+    let m = after-matrix .matrix .result in
+    let room : m + lengthOf p (p .l) (width p) ≤
+    length (now (a .streams)) = omega (
+      arith,
+      after-matrix .matrix .ensures .0,
+      pre .2,
+      length-le p {a = p .l} {b = 2 * p .l} (width p) (omega arith),
+    ) in
     (rw wide (width-bound p W), rw wide (reads p W (p .l) (width p) taken (rest-long m (now (a .streams)) room)))
 
 slice-aggregate-public-parts : tie.Need-slice-aggregate-public-parts
 slice-aggregate-public-parts c =
-    let pre = c .before .before .before .before .before .before .before .before .before .before .before .before .before .pre in
-    simp length-take (omega (arith, pre .2, c .before .before .before .before .before .before .before .before .before .matrix .ensures .0))
+    let start : tie.Start = search in
+    let after-matrix : tie.After-matrix = search in
+    simp length-take (omega (arith, start .pre .2, after-matrix .matrix .ensures .0))
 
 sub-public-parts : tie.Need-sub-public-parts
 sub-public-parts c = search needs
@@ -86,26 +97,28 @@ part-public-parts-end c = search needs
 
 array-share-prefix-r : tie.Need-array-share-prefix-r
 array-share-prefix-r c =
-    let a = c .before .before .before .before .before .before .before .before .before .before .before .before .before .before .args in
-    let p = a .p in
-    let pre = c .before .before .before .before .before .before .before .before .before .before .before .before .before .before .pre in
-    let W = pre .0 in
-    let taken : length (take (p .l * p .n) (c .before .before .before .before .before .before .before .before .before .zeros .result)) ≡ p .l * p .n =
-    let long : length (c .before .before .before .before .before .before .before .before .before .zeros .result) ≡ 1536 = search needs in
+    let start : tie.Start = search in
+    let after-zeros : tie.After-zeros = search in
+    let after-small : tie.After-small = search in
+    let p = start .args .p in
+    let W = start .pre .0 in
+    let taken : length (take (p .l * p .n) (after-zeros .zeros .result)) ≡ p .l * p .n =
+    let long : length (after-zeros .zeros .result) ≡ 1536 = search needs in
     simp length-take (omega (arith, long, W .vector)) in
-    let filled = c .before .before .before .small .kept .1 .1 .1 .0 ∙ taken in
+    let filled = after-small .small .kept .1 .1 .1 .0 ∙ taken in
     simp length-append (omega (arith, filled))
 
 slice-aggregate-public-parts-2 : tie.Need-slice-aggregate-public-parts-2
 slice-aggregate-public-parts-2 c =
-    let a = c .before .before .before .before .before .before .before .before .before .before .before .before .before .before .before .args in
-    let p = a .p in
-    let pre = c .before .before .before .before .before .before .before .before .before .before .before .before .before .before .before .pre in
-    let W = pre .0 in
-    let taken : length (take (p .l * p .n) (c .before .before .before .before .before .before .before .before .before .before .zeros .result)) ≡ p .l * p .n =
-    let long : length (c .before .before .before .before .before .before .before .before .before .before .zeros .result) ≡ 1536 = search needs in
+    let start : tie.Start = search in
+    let after-zeros : tie.After-zeros = search in
+    let after-small : tie.After-small = search in
+    let p = start .args .p in
+    let W = start .pre .0 in
+    let taken : length (take (p .l * p .n) (after-zeros .zeros .result)) ≡ p .l * p .n =
+    let long : length (after-zeros .zeros .result) ≡ 1536 = search needs in
     simp length-take (omega (arith, long, W .vector)) in
-    let filled = c .before .before .before .before .small .kept .1 .1 .1 .0 ∙ taken in
+    let filled = after-small .small .kept .1 .1 .1 .0 ∙ taken in
     simp (length-take, length-append) (omega (arith, filled))
 
 array-borrow-prefix-f : tie.Need-array-borrow-prefix-f
@@ -113,12 +126,12 @@ array-borrow-prefix-f c = search needs
 
 slice-aggregate-public-parts-3 : tie.Need-slice-aggregate-public-parts-3
 slice-aggregate-public-parts-3 c =
-    let a = c .before .before .before .before .before .before .before .before .before .before .before .before .before .before .before .before .args in
-    let p = a .p in
-    let pre = c .before .before .before .before .before .before .before .before .before .before .before .before .before .before .before .before .pre in
-    let W = pre .0 in
-    let taken : length (take (p .l * p .n) (c .before .before .before .before .before .before .before .before .before .before .zeros2 .result)) ≡ p .l * p .n =
-    let long : length (c .before .before .before .before .before .before .before .before .before .before .zeros2 .result) ≡ 1536 = search needs in
+    let start : tie.Start = search in
+    let after-zeros2 : tie.After-zeros2 = search in
+    let p = start .args .p in
+    let W = start .pre .0 in
+    let taken : length (take (p .l * p .n) (after-zeros2 .zeros2 .result)) ≡ p .l * p .n =
+    let long : length (after-zeros2 .zeros2 .result) ≡ 1536 = search needs in
     simp length-take (omega (arith, long, W .vector)) in
     sym taken
 
@@ -127,37 +140,37 @@ array-borrow-prefix-acc c = search needs
 
 slice-aggregate-public-parts-4 : tie.Need-slice-aggregate-public-parts-4
 slice-aggregate-public-parts-4 c =
-    let a = c .before .before .before .before .before .before .before .before .before .before .before .before .before .before .before .before .before .args in
-    let p = a .p in
-    let pre = c .before .before .before .before .before .before .before .before .before .before .before .before .before .before .before .before .before .pre in
-    let W = pre .0 in
-    let taken : length (take (p .n) (c .before .before .before .before .before .before .before .before .before .before .polynomial .result)) ≡ p .n =
-    let long : length (c .before .before .before .before .before .before .before .before .before .before .polynomial .result) ≡ 512 = search needs in
+    let start : tie.Start = search in
+    let after-polynomial : tie.After-polynomial = search in
+    let p = start .args .p in
+    let W = start .pre .0 in
+    let taken : length (take (p .n) (after-polynomial .polynomial .result)) ≡ p .n =
+    let long : length (after-polynomial .polynomial .result) ≡ 512 = search needs in
     simp length-take (omega (arith, long, W .short)) in
     sym taken
 
 public-parts-requires : tie.Need-public-parts-requires
 public-parts-requires c κs =
-    let a = c .before .before .before .before .before .before .before .before .before .before .before .before .before .before .before .before .before .before .args in
+    let a = start-place .args in
     let p = a .p in
-    let pre = c .before .before .before .before .before .before .before .before .before .before .before .before .before .before .before .before .before .before .pre in
+    let pre = start-place .pre in
     let W = pre .0 in
-    let taken : length (take (p .l * p .n) (c .before .before .before .before .before .before .before .before .before .before .before .before .before .zeros .result)) ≡ p .l * p .n =
-    let long : length (c .before .before .before .before .before .before .before .before .before .before .before .before .before .zeros .result) ≡ 1536 = search needs in
+    let taken : length (take (p .l * p .n) (after-zeros .zeros .result)) ≡ p .l * p .n =
+    let long : length (after-zeros .zeros .result) ≡ 1536 = search needs in
     simp length-take (omega (arith, long, W .vector)) in
-    let room : length (take (p .l * p .n) (c .before .before .before .before .before .before .before .before .before .before .before .before .zeros2 .result)) ≡ p .l * p .n =
-    let long : length (c .before .before .before .before .before .before .before .before .before .before .before .before .zeros2 .result) ≡ 1536 = search needs in
+    let room : length (take (p .l * p .n) (after-zeros2 .zeros2 .result)) ≡ p .l * p .n =
+    let long : length (after-zeros2 .zeros2 .result) ≡ 1536 = search needs in
     simp length-take (omega (arith, long, W .vector)) in
-    let sum-room : length (take (p .n) (c .before .before .before .before .before .before .before .before .before .before .before .polynomial .result)) ≡ p .n =
-    let long : length (c .before .before .before .before .before .before .before .before .before .before .before .polynomial .result) ≡ 512 = search needs in
+    let sum-room : length (take (p .n) (after-polynomial .polynomial .result)) ≡ p .n =
+    let long : length (after-polynomial .polynomial .result) ≡ 512 = search needs in
     simp length-take (omega (arith, long, W .short)) in
     let streams = now (a .streams) in
-    let m : ℕ = c .before .before .before .before .before .before .before .before .before .before .before .before .before .before .matrix .result in
-    let start = c .before .before .before .before .before .before .before .before .before .before .before .before .before .before .matrix .ensures .0 in
+    let m : ℕ = after-matrix .matrix .result in
+    let start = after-matrix .matrix .ensures .0 in
     let secrets : List ℕ = take (length streams - m) (drop m streams) in
-    let filled = c .before .before .before .before .before .before .before .small .kept .1 .1 .1 .0 ∙ taken in
-    let r : List ℕ = c .before .before .before .before .before .before .before .small .last .1 .1 .1 .0 in
-    let rest : List ℕ = drop (p .l * p .n) (c .before .before .before .before .before .before .before .before .before .before .before .before .before .zeros .result) in
+    let filled = after-small .small .kept .1 .1 .1 .0 ∙ taken in
+    let r : List ℕ = after-small .small .last .1 .1 .1 .0 in
+    let rest : List ℕ = drop (p .l * p .n) (after-zeros .zeros .result) in
     let there : take (p .l * p .n) (r ++ rest) ≡ r = take-at r rest (p .l * p .n) filled in (
       record {
         well = W;
@@ -169,16 +182,41 @@ public-parts-requires c κs =
         some-kept = pre .1;
         stored-long = pre .3;
       },
-      there ∙ secret-held p secrets (c .before .before .before .before .before .before .before .before .before .before .width .ensures) taken (c .before .before .before .before .before .before .before .small .ensures),
+      there ∙ secret-held p secrets (after-width .width .ensures) taken (after-small .small .ensures),
     )
+  where
+    start-place : tie.Start
+    start-place = search
+
+    after-matrix : tie.After-matrix
+    after-matrix = search
+
+    after-zeros : tie.After-zeros
+    after-zeros = search
+
+    after-zeros2 : tie.After-zeros2
+    after-zeros2 = search
+
+    after-polynomial : tie.After-polynomial
+    after-polynomial = search
+
+    after-width : tie.After-width
+    after-width = search
+
+    after-small : tie.After-small
+    after-small = search
 
 same-length : tie.Need-same-length
 same-length c = search needs
 
 returns : tie.Need-returns
 returns c =
-    let a = c .before .before .before .before .before .before .before .before .before .before .before .before .before .before .before .before .before .before .before .before .before .before .before .args in
-    stored-made (a .p) (c .before .before .before .before .before .before .before .before .before .before .before .before .before .before .before .before .before .before .before .before .before .before .before .pre .0) (a .t) (omega (arith, c .before .before .before .before .before .before .before .before .before .before .before .before .before .before .before .before .before .before .before .before .before .before .before .pre .1)) (now (a .streams)) (c .before .before .before .before .before .before .before .before .before .before .before .before .before .before .before .before .before .before .before .matrix .result) (c .before .before .before .before .before .before .before .before .before .before .before .before .before .before .before .before .before .before .before .matrix .ensures .0) (c .before .before .before .before .public-parts .ensures)
+    let start : tie.Start = search in
+    let after-matrix : tie.After-matrix = search in
+    let after-public-parts : tie.After-public-parts = search in
+    let a = start .args in
+    stored-made (a .p) (start .pre .0) (a .t) (omega (arith, start .pre .1)) (now (a .streams)) (after-matrix .matrix .result)
+    (after-matrix .matrix .ensures .0) (after-public-parts .public-parts .ensures)
 
 pub public-polynomials-spec : {M : Type 1} → statement M
 public-polynomials-spec =

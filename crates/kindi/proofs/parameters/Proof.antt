@@ -12,15 +12,29 @@ returns c = record { are = is-set _ 1 _ _ (c .if1 .taken); well = well1 }
 
 returns-2 : tie.Need-returns-2
 unfolding ofSet
-returns-2 c = record { are = is-later _ 1 _ _ _ (c .before .if1 .left) (is-set _ 2 _ _ (c .if2 .taken)); well = well2 }
+returns-2 c =
+    let else1 : tie.Else1 = search in
+    record { are = is-later _ 1 _ _ _ (else1 .if1 .left) (is-set _ 2 _ _ (c .if2 .taken)); well = well2 }
 
 returns-3 : tie.Need-returns-3
 unfolding ofSet
-returns-3 c = record { are = is-later _ 1 _ _ _ (c .before .before .if1 .left) (is-later _ 2 _ _ _ (c .before .if2 .left) (is-set _ 3 _ _ (c .if3 .taken))); well = well3 }
+returns-3 c =
+    let else1 : tie.Else1 = search in
+    let else2 : tie.Else2 = search in
+    record {
+      are = is-later _ 1 _ _ _ (else1 .if1 .left) (is-later _ 2 _ _ _ (else2 .if2 .left) (is-set _ 3 _ _ (c .if3 .taken)));
+      well = well3;
+    }
 
 returns-4 : tie.Need-returns-4
 unfolding ofSet
-returns-4 c = record { are = is-later _ 1 _ _ _ (c .before .before .if1 .left) (is-later _ 2 _ _ _ (c .before .if2 .left) (is-later _ 3 _ _ _ (c .if3 .left) refl)); well = well4 }
+returns-4 c =
+    let else1 : tie.Else1 = search in
+    let else2 : tie.Else2 = search in
+    record {
+      are = is-later _ 1 _ _ _ (else1 .if1 .left) (is-later _ 2 _ _ _ (else2 .if2 .left) (is-later _ 3 _ _ _ (c .if3 .left) refl));
+      well = well4;
+    }
 
 pub parameters-spec : {M : Type 1} → statement M
 parameters-spec = tie.close (tie.spec returns returns-2 returns-3 returns-4)

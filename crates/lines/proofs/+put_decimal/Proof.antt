@@ -28,6 +28,33 @@ abbrev put-decimal-below : ℕ → In 1 put-decimal-kinds.ps
 put-decimal-below t =
     and 1 put-decimal-kinds.ps (falls 1 put-decimal-kinds.ps _<_ μ-put-decimal t) put-decimal.Pre
 
+-- The places of the code that the answers name.
+abbrev Start : ℕ → Type 0
+Start t =
+    put-decimal-lts.Start (put-reads.Asked, put-reads.Learnt, put-decimal-below t, put-decimal.Post) (put-decimal-at t) put-decimal.Post
+
+abbrev Then1 : ℕ → Type 0
+Then1 t =
+    put-decimal-lts.Then1 (put-reads.Asked, put-reads.Learnt, put-decimal-below t, put-decimal.Post) (put-decimal-at t) put-decimal.Post
+
+abbrev Else1 : ℕ → Type 0
+Else1 t =
+    put-decimal-lts.Else1 (put-reads.Asked, put-reads.Learnt, put-decimal-below t, put-decimal.Post) (put-decimal-at t) put-decimal.Post
+
+abbrev After-put : ℕ → Type 0
+After-put t =
+    put-decimal-lts.After-put (put-reads.Asked, put-reads.Learnt, put-decimal-below t, put-decimal.Post) (put-decimal-at t) put-decimal.Post
+
+abbrev After-put-decimal : ℕ → Type 0
+After-put-decimal t =
+    put-decimal-lts.After-put-decimal (put-reads.Asked, put-reads.Learnt, put-decimal-below t, put-decimal.Post) (put-decimal-at t)
+    put-decimal.Post
+
+abbrev After-put2 : ℕ → Type 0
+After-put2 t =
+    put-decimal-lts.After-put2 (put-reads.Asked, put-reads.Learnt, put-decimal-below t, put-decimal.Post) (put-decimal-at t)
+    put-decimal.Post
+
 -- src/lib.rt:24:25
 put-decimal-cast-put : (t : ℕ) → put-decimal-lts.Need-cast-put (
   put-reads.Asked,
@@ -54,7 +81,9 @@ put-decimal-put-requires : (t : ℕ) → put-decimal-lts.Need-put-requires (
   put-decimal.Post,
 ) (put-decimal-at t) put-decimal.Post
 put-decimal-put-requires t c κs =
-    omega (arith, c .before .before .before .pre .1, ap length (decimal-one (c .before .before .before .args .v) (c .before .if1 .taken)))
+    let start : Start t = search in
+    let then1 : Then1 t = search in
+    omega (arith, start .pre .1, ap length (decimal-one (start .args .v) (then1 .if1 .taken)))
 
 -- src/lib.rt:24:9
 put-decimal-same-length : (t : ℕ) → put-decimal-lts.Need-same-length (
@@ -73,7 +102,10 @@ put-decimal-returns : (t : ℕ) → put-decimal-lts.Need-returns (
   put-decimal.Post,
 ) (put-decimal-at t) put-decimal.Post
 put-decimal-returns t c =
-    written-as (sym (decimal-one (c .before .before .before .before .before .before .args .v) (c .before .before .before .before .if1 .taken))) (c .before .before .put .ensures)
+    let start : Start t = search in
+    let then1 : Then1 t = search in
+    let after-put : After-put t = search in
+    written-as (sym (decimal-one (start .args .v) (then1 .if1 .taken))) (after-put .put .ensures)
 
 -- src/lib.rt:26:9
 put-decimal-put-decimal-requires : (t : ℕ) → put-decimal-lts.Need-put-decimal-requires (
@@ -83,8 +115,12 @@ put-decimal-put-decimal-requires : (t : ℕ) → put-decimal-lts.Need-put-decima
   put-decimal.Post,
 ) (put-decimal-at t) put-decimal.Post
 put-decimal-put-decimal-requires t c κs =
-    let more = decimal-more (c .before .before .before .args .v) (c .before .if1 .left) in
-    (omega (arith, c .before .before .before .pre .0, c .before .if1 .left), omega (arith, c .before .before .before .pre .1, ap length more, length-append (decimal (c .before .before .before .args .v / 10)) ((48 + c .before .before .before .args .v % 10) ∷ [])))
+    let start : Start t = search in
+    let else1 : Else1 t = search in
+    let more = decimal-more (start .args .v) (else1 .if1 .left) in (
+      omega (arith, start .pre .0, else1 .if1 .left),
+      omega (arith, start .pre .1, ap length more, length-append (decimal (start .args .v / 10)) ((48 + start .args .v % 10) ∷ [])),
+    )
 
 -- src/lib.rt:27:14
 put-decimal-cast-put-2 : (t : ℕ) → put-decimal-lts.Need-cast-put-2 (
@@ -112,8 +148,17 @@ put-decimal-put-requires-2 : (t : ℕ) → put-decimal-lts.Need-put-requires-2 (
   put-decimal.Post,
 ) (put-decimal-at t) put-decimal.Post
 put-decimal-put-requires-2 t c κs =
-    let more = decimal-more (c .before .before .before .before .before .before .before .args .v) (c .before .before .before .before .before .if1 .left) in
-    omega (arith, c .before .before .before .before .before .before .before .pre .1, c .before .before .before .put-decimal .ensures .next-is, ap length more, length-append (decimal (c .before .before .before .before .before .before .before .args .v / 10)) ((48 + c .before .before .before .before .before .before .before .args .v % 10) ∷ []))
+    let start : Start t = search in
+    let else1 : Else1 t = search in
+    let after-put-decimal : After-put-decimal t = search in
+    let more = decimal-more (start .args .v) (else1 .if1 .left) in
+    omega (
+      arith,
+      start .pre .1,
+      after-put-decimal .put-decimal .ensures .next-is,
+      ap length more,
+      length-append (decimal (start .args .v / 10)) ((48 + start .args .v % 10) ∷ []),
+    )
 
 -- src/lib.rt:19:1
 put-decimal-same-length-2 : (t : ℕ) → put-decimal-lts.Need-same-length-2 (
@@ -132,7 +177,12 @@ put-decimal-returns-2 : (t : ℕ) → put-decimal-lts.Need-returns-2 (
   put-decimal.Post,
 ) (put-decimal-at t) put-decimal.Post
 put-decimal-returns-2 t c =
-    written-as (sym (decimal-more (c .before .before .before .before .before .before .before .before .before .before .args .v) (c .before .before .before .before .before .before .before .before .if1 .left))) (written-then (c .before .before .before .before .before .before .put-decimal .ensures) (c .before .before .put2 .ensures))
+    let start : Start t = search in
+    let else1 : Else1 t = search in
+    let after-put-decimal : After-put-decimal t = search in
+    let after-put2 : After-put2 t = search in
+    written-as (sym (decimal-more (start .args .v) (else1 .if1 .left)))
+    (written-then (after-put-decimal .put-decimal .ensures) (after-put2 .put2 .ensures))
 
 pub +put-decimal-spec : {M : Type 1} → statement M
 +put-decimal-spec = close μ-put-decimal λ t. put-decimal-lts.spec (

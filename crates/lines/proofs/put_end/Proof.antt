@@ -29,12 +29,38 @@ put-requires-4 c κs = search needs
 -- src/lib.rt:105:9
 put-decimal-requires : tie.Need-put-decimal-requires
 put-decimal-requires c κs =
-    omega (arith, decimal-fits (c .before .before .before .before .before .before .before .before .before .before .before .before .before .before .before .before .before .before .args .number) (omega arith), c .before .before .before .before .before .before .before .before .before .before .before .before .before .before .before .put .ensures .next-is, c .before .before .before .before .before .before .before .before .before .before .before .put2 .ensures .next-is, c .before .before .before .before .before .before .before .put3 .ensures .next-is, c .before .before .before .put4 .ensures .next-is)
+    let start : tie.Start = search in
+    let after-put : tie.After-put = search in
+    let after-put2 : tie.After-put2 = search in
+    let after-put3 : tie.After-put3 = search in
+    let after-put4 : tie.After-put4 = search in
+    omega (
+      arith,
+      decimal-fits (start .args .number) (omega arith),
+      after-put .put .ensures .next-is,
+      after-put2 .put2 .ensures .next-is,
+      after-put3 .put3 .ensures .next-is,
+      after-put4 .put4 .ensures .next-is,
+    )
 
 -- src/lib.rt:106:5
 put-requires-5 : tie.Need-put-requires-5
 put-requires-5 c κs =
-    omega (arith, decimal-fits (c .before .before .before .before .before .before .before .before .before .before .before .before .before .before .before .before .before .before .before .before .before .before .args .number) (omega arith), c .before .before .before .before .before .before .before .before .before .before .before .before .before .before .before .before .before .before .before .put .ensures .next-is, c .before .before .before .before .before .before .before .before .before .before .before .before .before .before .before .put2 .ensures .next-is, c .before .before .before .before .before .before .before .before .before .before .before .put3 .ensures .next-is, c .before .before .before .before .before .before .before .put4 .ensures .next-is, c .before .before .before .put-decimal .ensures .next-is)
+    let start : tie.Start = search in
+    let after-put : tie.After-put = search in
+    let after-put2 : tie.After-put2 = search in
+    let after-put3 : tie.After-put3 = search in
+    let after-put4 : tie.After-put4 = search in
+    let after-put-decimal : tie.After-put-decimal = search in
+    omega (
+      arith,
+      decimal-fits (start .args .number) (omega arith),
+      after-put .put .ensures .next-is,
+      after-put2 .put2 .ensures .next-is,
+      after-put3 .put3 .ensures .next-is,
+      after-put4 .put4 .ensures .next-is,
+      after-put-decimal .put-decimal .ensures .next-is,
+    )
 
 -- src/lib.rt:97:1
 same-length : tie.Need-same-length
@@ -43,11 +69,18 @@ same-length c = search needs
 -- src/lib.rt:97:1
 returns : tie.Need-returns
 returns c =
-    let a1 = written-then (c .before .before .before .before .before .before .before .before .before .before .before .before .before .before .before .before .before .before .before .before .before .before .put .ensures) (c .before .before .before .before .before .before .before .before .before .before .before .before .before .before .before .before .before .before .put2 .ensures) in
-    let a2 = written-then a1 (c .before .before .before .before .before .before .before .before .before .before .before .before .before .before .put3 .ensures) in
-    let a3 = written-then a2 (c .before .before .before .before .before .before .before .before .before .before .put4 .ensures) in
-    let a4 = written-then a3 (c .before .before .before .before .before .before .put-decimal .ensures) in
-    written-as (end-fields (c .before .before .before .before .before .before .before .before .before .before .before .before .before .before .before .before .before .before .before .before .before .before .before .before .before .args .number)) (written-then a4 (c .before .before .put5 .ensures))
+    let after-put5 : tie.After-put5 = search in
+    let after-put-decimal : tie.After-put-decimal = search in
+    let after-put4 : tie.After-put4 = search in
+    let after-put3 : tie.After-put3 = search in
+    let after-put2 : tie.After-put2 = search in
+    let after-put : tie.After-put = search in
+    let start : tie.Start = search in
+    let a1 = written-then (after-put .put .ensures) (after-put2 .put2 .ensures) in
+    let a2 = written-then a1 (after-put3 .put3 .ensures) in
+    let a3 = written-then a2 (after-put4 .put4 .ensures) in
+    let a4 = written-then a3 (after-put-decimal .put-decimal .ensures) in
+    written-as (end-fields (start .args .number)) (written-then a4 (after-put5 .put5 .ensures))
 
 pub put-end-spec : {M : Type 1} → statement M
 put-end-spec =

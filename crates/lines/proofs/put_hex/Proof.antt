@@ -44,10 +44,13 @@ same-length c = search needs
 -- src/lib.rt:52:1
 returns : tie.Need-returns
 returns c =
-    let a = c .before .before .before .before .before .before .args in
-    let text = c .before .before .spell .last .1 .0 in
-    let is : text ≡ hexadecimal (now (a .bytes)) = c .before .before .spell .ensures in
-    written-as is (written-to (now (a .out)) text (a .at) (2 * length (now (a .bytes))) (ap length is ∙ length-hexadecimal (now (a .bytes))) (c .before .before .before .before .before .before .pre))
+    let start : tie.Start = search in
+    let after-spell : tie.After-spell = search in
+    let a = start .args in
+    let text = after-spell .spell .last .1 .0 in
+    let is : text ≡ hexadecimal (now (a .bytes)) = after-spell .spell .ensures in
+    written-as is (written-to (now (a .out)) text (a .at) (2 * length (now (a .bytes)))
+    (ap length is ∙ length-hexadecimal (now (a .bytes))) (start .pre))
 
 pub put-hex-spec : {M : Type 1} → statement M
 put-hex-spec =

@@ -20,7 +20,9 @@ same-length c = search needs
 -- src/lib.rt:45:9
 returns : tie.Need-returns
 returns c =
-    rw (c .before .before .before .before .if1 .taken) (c .before .before .put-number .ensures)
+    let then1 : tie.Then1 = search in
+    let after-put-number : tie.After-put-number = search in
+    rw (then1 .if1 .taken) (after-put-number .put-number .ensures)
 
 -- src/lib.rt:47:9
 put-requires : tie.Need-put-requires
@@ -37,7 +39,10 @@ same-length-2 c = search needs
 -- src/lib.rt:40:1
 returns-2 : tie.Need-returns-2
 returns-2 c =
-    rw (c .before .before .before .before .before .before .before .before .if1 .left) (written-then (c .before .before .before .before .before .before .put .ensures) (c .before .before .put2 .ensures))
+    let else1 : tie.Else1 = search in
+    let after-put : tie.After-put = search in
+    let after-put2 : tie.After-put2 = search in
+    rw (else1 .if1 .left) (written-then (after-put .put .ensures) (after-put2 .put2 .ensures))
 
 pub put-kind-spec : {M : Type 1} → statement M
 put-kind-spec =

@@ -13,12 +13,15 @@ use Rattle.lines.proofs.put_decimal.Reads as put-decimal-reads
 -- src/lib.rt:35:9
 put-decimal-requires : tie.Need-put-decimal-requires
 put-decimal-requires c κs =
-    omega (arith, decimal-fits (c .before .before .args .v) (omega arith))
+    let start : tie.Start = search in
+    omega (arith, decimal-fits (start .args .v) (omega arith))
 
 -- src/lib.rt:36:5
 put-requires : tie.Need-put-requires
 put-requires c κs =
-    omega (arith, decimal-fits (c .before .before .before .before .before .before .args .v) (omega arith), c .before .before .before .put-decimal .ensures .next-is)
+    let start : tie.Start = search in
+    let after-put-decimal : tie.After-put-decimal = search in
+    omega (arith, decimal-fits (start .args .v) (omega arith), after-put-decimal .put-decimal .ensures .next-is)
 
 -- src/lib.rt:31:1
 same-length : tie.Need-same-length
@@ -27,7 +30,9 @@ same-length c = search needs
 -- src/lib.rt:31:1
 returns : tie.Need-returns
 returns c =
-    written-then (c .before .before .before .before .before .before .put-decimal .ensures) (c .before .before .put .ensures)
+    let after-put-decimal : tie.After-put-decimal = search in
+    let after-put : tie.After-put = search in
+    written-then (after-put-decimal .put-decimal .ensures) (after-put .put .ensures)
 
 pub put-number-spec : {M : Type 1} → statement M
 put-number-spec = tie.close (tie.spec put-decimal-requires put-requires same-length returns)

@@ -28,7 +28,11 @@ same-length c = search needs
 -- src/lib.rt:67:9
 returns : tie.Need-returns
 returns c =
-    written-as (sym (output-none _ (length-append (now (c .before .before .before .before .before .before .before .before .args .first)) (now (c .before .before .before .before .before .before .before .before .args .second)) ∙ c .before .before .before .before .if1 .taken))) (c .before .before .put .ensures)
+    let start : tie.Start = search in
+    let then1 : tie.Then1 = search in
+    let after-put : tie.After-put = search in
+    written-as (sym (output-none _ (length-append (now (start .args .first)) (now (start .args .second)) ∙ then1 .if1 .taken)))
+    (after-put .put .ensures)
 
 -- src/lib.rt:69:9
 put-hex-requires : tie.Need-put-hex-requires
@@ -37,7 +41,14 @@ put-hex-requires c κs = search needs
 -- src/lib.rt:70:5
 put-hex-requires-2 : tie.Need-put-hex-requires-2
 put-hex-requires-2 c κs =
-    omega (arith, length-hexadecimal (now (c .before .before .before .before .before .before .before .before .before .args .first)), length-hexadecimal (now (c .before .before .before .before .before .before .before .before .before .args .second)), c .before .before .before .put-hex .ensures .next-is)
+    let start : tie.Start = search in
+    let after-put-hex : tie.After-put-hex = search in
+    omega (
+      arith,
+      length-hexadecimal (now (start .args .first)),
+      length-hexadecimal (now (start .args .second)),
+      after-put-hex .put-hex .ensures .next-is,
+    )
 
 -- src/lib.rt:62:1
 same-length-2 : tie.Need-same-length-2
@@ -46,7 +57,10 @@ same-length-2 c = search needs
 -- src/lib.rt:62:1
 returns-2 : tie.Need-returns-2
 returns-2 c =
-    written-as (sym (hexadecimal-append _ _) ∙ sym (output-some _ (simp length-append (omega arith)))) (written-then (c .before .before .before .before .before .before .put-hex .ensures) (c .before .before .put-hex2 .ensures))
+    let after-put-hex : tie.After-put-hex = search in
+    let after-put-hex2 : tie.After-put-hex2 = search in
+    written-as (sym (hexadecimal-append _ _) ∙ sym (output-some _ (simp length-append (omega arith))))
+    (written-then (after-put-hex .put-hex .ensures) (after-put-hex2 .put-hex2 .ensures))
 
 pub put-output-spec : {M : Type 1} → statement M
 put-output-spec =

@@ -23,7 +23,14 @@ step-requires c κs = search needs
 add-t11 : tie.Need-add-t11
 unfolding windowOf
 add-t11 c =
-    omega (arith, c .before .before .before .before .before .before .before .before .before .step .ensures .consumed-is, reads-within (c .before .before .before .before .before .before .before .before .before .before .before .before .before .before .before .before .before .before .before .before .args .s) (now (c .before .before .before .before .before .before .before .before .before .before .before .before .before .before .before .before .before .before .before .before .args .input)) (c .before .before .before .before .before .before .before .before .before .before .before .before .before .before .before .before .before .before .before .before .pre .in-order), c .before .before .before .before .before .before .before .before .before .before .before .before .before .before .before .before .before .before .before .before .pre .in-input)
+    let start : tie.Start = search in
+    let after-step : tie.After-step = search in
+    omega (
+      arith,
+      after-step .step .ensures .consumed-is,
+      reads-within (start .args .s) (now (start .args .input)) (start .pre .in-order),
+      start .pre .in-input,
+    )
 
 same-length : tie.Need-same-length
 same-length c = search needs
@@ -39,7 +46,10 @@ same-length-4 c = search needs
 
 returns : tie.Need-returns
 returns c =
-    answered (c .before .before .before .before .before .before .before .before .before .before .before .before .before .before .before .before .before .before .before .before .args .s) (now (c .before .before .before .before .before .before .before .before .before .before .before .before .before .before .before .before .before .before .before .before .args .input)) (now (c .before .before .before .before .before .before .before .before .before .before .before .before .before .before .before .before .before .before .before .before .args .out)) (c .before .before .before .before .before .before .before .before .before .step .last .1 .1 .1 .0) (c .before .before .before .before .before .before .before .before .before .step .ensures)
+    let start : tie.Start = search in
+    let after-step : tie.After-step = search in
+    answered (start .args .s) (now (start .args .input)) (now (start .args .out)) (after-step .step .last .1 .1 .1 .0)
+    (after-step .step .ensures)
 
 pub answer-spec : {M : Type 1} → statement M
 answer-spec =

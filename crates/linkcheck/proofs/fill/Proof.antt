@@ -20,6 +20,19 @@ Inv-loop s input₀ from to end₀ more₀ input end more =
 abbrev μ-loop : tie.MeasureT-loop
 μ-loop s input₀ from to end₀ more₀ input end more = (length input - end) + cond more 1 0
 
+-- The places of the code that the answers name.
+abbrev Start : Type 0
+Start = tie.Start Inv-loop μ-loop
+
+abbrev After-to-front : Type 0
+After-to-front = tie.After-to-front Inv-loop μ-loop
+
+abbrev Turn : Type 0
+Turn = tie.At-loop Inv-loop μ-loop
+
+abbrev After-read : Type 0
+After-read = tie.After-read Inv-loop μ-loop
+
 to-front-requires : tie.Need-to-front-requires Inv-loop μ-loop
 to-front-requires c κs = omega arith
 
@@ -33,7 +46,9 @@ slice-reshare-prefix-shows-record : tie.Need-slice-reshare-prefix-shows-record I
 slice-reshare-prefix-shows-record c = omega arith
 
 slice-aggregate-shows-record : tie.Need-slice-aggregate-shows-record Inv-loop μ-loop
-slice-aggregate-shows-record c = sym (length-take-le _ _ (c .before .before .loop .inv .0))
+slice-aggregate-shows-record c =
+    let turn : Turn = search in
+    sym (length-take-le _ _ (turn .loop .inv .0))
 
 shows-record-requires : tie.Need-shows-record-requires Inv-loop μ-loop
 shows-record-requires c κs = omega arith
@@ -67,29 +82,51 @@ add-end c = omega arith
 
 loop-less : tie.Need-loop-less Inv-loop μ-loop
 loop-less c =
-    let h = c .before .before .before .before .before .before .before .before .before .before .before .loop in
-    let long = same-len-mid (h .end) (length (h .input) - h .end) (h .input) (c .before .before .before .before .before .read .last .1 .0) (c .before .before .before .before .before .read .kept .1 .0) in
-    rw (long, c .before .before .before .before .before .before .before .before .before .before .loop-test .taken) (read-falls (length (h .input)) (h .end) (c .count .result) (omega arith))
+    let turn : Turn = search in
+    let in-loop : tie.In-loop Inv-loop μ-loop = search in
+    let after-read : After-read = search in
+    let h = turn .loop in
+    let long = same-len-mid (h .end) (length (h .input) - h .end) (h .input) (after-read .read .last .1 .0)
+    (after-read .read .kept .1 .0) in
+    rw (long, in-loop .loop-test .taken) (read-falls (length (h .input)) (h .end) (c .count .result) (omega arith))
 
 loop-again : tie.Need-loop-again Inv-loop μ-loop
 loop-again c =
-    let h = c .before .before .before .before .before .before .before .before .before .before .before .loop in
-    let s = c .before .before .before .before .before .before .before .before .before .before .before .before .before .before .before .before .before .args .s in
-    (omega arith, omega arith, omega (arith, h .inv .2), read-behind (s .to - s .from) (h .end) (h .input) (c .before .before .before .before .before .read .last .1 .0) (h .inv .2) (h .inv .0) ∙ h .inv .3)
+    let start : Start = search in
+    let turn : Turn = search in
+    let after-read : After-read = search in
+    let h = turn .loop in
+    let s = start .args .s in (
+      omega arith,
+      omega arith,
+      omega (arith, h .inv .2),
+      read-behind (s .to - s .from) (h .end) (h .input) (after-read .read .last .1 .0) (h .inv .2) (h .inv .0) ∙ h .inv .3,
+    )
 
 same-length : tie.Need-same-length Inv-loop μ-loop
 same-length c = omega arith
 
 returns : tie.Need-returns Inv-loop μ-loop
 returns c =
-    filled (c .before .before .before .before .before .before .before .args .s) (now (c .before .before .before .before .before .before .before .args .input)) (c .before .before .before .before .to-front .last .0) (c .before .loop .input) (c .before .loop .end) (c .before .loop .more) (c .before .loop .inv .0) (omega arith) (c .before .loop .inv .2) (c .before .loop .inv .3) (c .before .before .before .before .to-front .ensures) (λ e. never-true (sym e ∙ c .loop-test .left))
+    let start : Start = search in
+    let after-to-front : After-to-front = search in
+    let turn : Turn = search in
+    filled (start .args .s) (now (start .args .input)) (after-to-front .to-front .last .0) (turn .loop .input) (turn .loop .end)
+    (turn .loop .more) (turn .loop .inv .0) (omega arith) (turn .loop .inv .2) (turn .loop .inv .3) (after-to-front .to-front .ensures)
+    (λ e. never-true (sym e ∙ c .loop-test .left))
 
 same-length-2 : tie.Need-same-length-2 Inv-loop μ-loop
 same-length-2 c = omega arith
 
 returns-2 : tie.Need-returns-2 Inv-loop μ-loop
 returns-2 c =
-    filled (c .before .before .before .before .before .before .before .before .before .before .args .s) (now (c .before .before .before .before .before .before .before .before .before .before .args .input)) (c .before .before .before .before .before .before .before .to-front .last .0) (c .before .before .before .before .loop .input) (c .before .before .before .before .loop .end) (c .before .before .before .before .loop .more) (c .before .before .before .before .loop .inv .0) (omega arith) (c .before .before .before .before .loop .inv .2) (c .before .before .before .before .loop .inv .3) (c .before .before .before .before .before .before .before .to-front .ensures) (λ e. sym (c .before .shows-record .ensures) ∙ c .if1 .taken)
+    let start : Start = search in
+    let after-to-front : After-to-front = search in
+    let turn : Turn = search in
+    let after-shows-record : tie.After-shows-record Inv-loop μ-loop = search in
+    filled (start .args .s) (now (start .args .input)) (after-to-front .to-front .last .0) (turn .loop .input) (turn .loop .end)
+    (turn .loop .more) (turn .loop .inv .0) (omega arith) (turn .loop .inv .2) (turn .loop .inv .3) (after-to-front .to-front .ensures)
+    (λ e. sym (after-shows-record .shows-record .ensures) ∙ c .if1 .taken)
 
 pub fill-spec : {M : Type 1} → statement M
 fill-spec =

@@ -15,7 +15,11 @@ make-room-requires c κs = search needs
 
 returns : tie.Need-returns
 returns c =
-    ready-before (c .before .before .before .before .args .s) (c .make-room .result) (now (c .before .before .before .before .args .input)) (now (c .before .before .before .before .args .out)) (c .before .before .before .before .pre) (c .make-room .ensures .0) (c .make-room .ensures .1) (c .make-room .ensures .2) (c .make-room .ensures .3) (c .make-room .ensures .4) (λ e. never-true (sym e ∙ not-true _ (c .before .if1 .taken)))
+    let start : tie.Start = search in
+    let then1 : tie.Then1 = search in
+    ready-before (start .args .s) (c .make-room .result) (now (start .args .input)) (now (start .args .out)) (start .pre)
+    (c .make-room .ensures .0) (c .make-room .ensures .1) (c .make-room .ensures .2) (c .make-room .ensures .3)
+    (c .make-room .ensures .4) (λ e. never-true (sym e ∙ not-true _ (then1 .if1 .taken)))
 
 sub-shows-record : tie.Need-sub-shows-record
 sub-shows-record c = search needs
@@ -38,7 +42,12 @@ same-length c = search needs
 returns-2 : tie.Need-returns-2
 unfolding windowOf
 returns-2 c =
-    ready-before (c .before .before .before .before .before .before .before .before .args .s) (c .make-room2 .result) (now (c .before .before .before .before .before .before .before .before .args .input)) (now (c .before .before .before .before .before .before .before .before .args .out)) (c .before .before .before .before .before .before .before .before .pre) (c .make-room2 .ensures .0) (c .make-room2 .ensures .1) (c .make-room2 .ensures .2) (c .make-room2 .ensures .3) (c .make-room2 .ensures .4) (λ e. sym (c .before .before .shows-record .ensures) ∙ c .before .if2 .taken)
+    let start : tie.Start = search in
+    let after-shows-record : tie.After-shows-record = search in
+    let then2 : tie.Then2 = search in
+    ready-before (start .args .s) (c .make-room2 .result) (now (start .args .input)) (now (start .args .out)) (start .pre)
+    (c .make-room2 .ensures .0) (c .make-room2 .ensures .1) (c .make-room2 .ensures .2) (c .make-room2 .ensures .3)
+    (c .make-room2 .ensures .4) (λ e. sym (after-shows-record .shows-record .ensures) ∙ then2 .if2 .taken)
 
 flush-requires : tie.Need-flush-requires
 flush-requires c κs = search needs
@@ -51,7 +60,11 @@ same-length-2 c = search needs
 
 returns-3 : tie.Need-returns-3
 returns-3 c =
-    ready-filled (c .before .before .before .before .before .before .before .before .before .before .before .before .args .s) (c .before .before .before .before .flush .result) (c .before .before .fill .result) (now (c .before .before .before .before .before .before .before .before .before .before .before .before .args .input)) (now (c .before .before .before .before .before .before .before .before .before .before .before .before .args .out)) (c .before .before .fill .last .1 .0) (c .before .before .before .before .before .before .before .before .before .before .before .before .pre .room) (c .before .before .before .before .flush .ensures) (c .before .before .fill .ensures)
+    let start : tie.Start = search in
+    let after-flush : tie.After-flush = search in
+    let after-fill : tie.After-fill = search in
+    ready-filled (start .args .s) (after-flush .flush .result) (after-fill .fill .result) (now (start .args .input))
+    (now (start .args .out)) (after-fill .fill .last .1 .0) (start .pre .room) (after-flush .flush .ensures) (after-fill .fill .ensures)
 
 pub ready-spec : {M : Type 1} → statement M
 ready-spec =

@@ -21,12 +21,39 @@ Inv-loop input₀ out₀ first₀ second₀ work₀ s₀ ended₀ input out firs
 abbrev μ-loop : tie.MeasureT-loop
 μ-loop input₀ out₀ first₀ second₀ work₀ s₀ ended₀ input out first second work s ended = cond ended 0 (65535 - s .done)
 
+-- The places of the code that the answers name.
+abbrev Start : Type 0
+Start = tie.Start Inv-loop μ-loop
+
+abbrev Turn : Type 0
+Turn = tie.At-loop Inv-loop μ-loop
+
+abbrev In-loop : Type 0
+In-loop = tie.In-loop Inv-loop μ-loop
+
+abbrev After-ready : Type 0
+After-ready = tie.After-ready Inv-loop μ-loop
+
+abbrev After-put-end : Type 0
+After-put-end = tie.After-put-end Inv-loop μ-loop
+
+abbrev After-answer : Type 0
+After-answer = tie.After-answer Inv-loop μ-loop
+
 loop-holds : tie.Need-loop-holds Inv-loop μ-loop
 loop-holds c =
-    (refl, refl, refl, refl, refl, record { in-order = omega arith; in-input = omega arith; in-output = omega arith; room = omega (arith, c .before .before .before .before .before .pre .1) }, λ e. omega arith)
+    let start : Start = search in (
+      refl,
+      refl,
+      refl,
+      refl,
+      refl,
+      record { in-order = omega arith; in-input = omega arith; in-output = omega arith; room = omega (arith, start .pre .1) },
+      λ e. omega arith,
+    )
 
 ready-requires : tie.Need-ready-requires Inv-loop μ-loop
-ready-requires c κs = c .before .before .before .loop .inv .5
+ready-requires c κs = let turn : Turn = search in turn .loop .inv .5
 
 same-length : tie.Need-same-length Inv-loop μ-loop
 same-length c = search needs
@@ -48,35 +75,61 @@ returns c = tt
 
 answer-requires : tie.Need-answer-requires Inv-loop μ-loop
 answer-requires c κs =
-    let r = c .before .before .before .before .before .before .before .before .ready in
-    let h = c .before .before .before .before .before .before .before .before .before .before .before .before .loop in
-    record { in-order = r .ensures .window .in-order; in-input = omega (arith, r .ensures .window .in-input, r .kept .1 .0); step-room = record { few = omega (arith, r .ensures .window .done-is, h .inv .6 (not-true (h .ended) (c .before .before .before .before .before .before .before .before .before .before .before .loop-test .taken))); line-fits = r .ensures .line-fits; room = record { first-long = omega (arith, c .before .before .before .before .before .before .before .before .before .before .before .before .before .before .before .before .before .before .pre .2, h .inv .2); second-long = omega (arith, c .before .before .before .before .before .before .before .before .before .before .before .before .before .before .before .before .before .before .pre .3, h .inv .3); work-long = omega (arith, c .before .before .before .before .before .before .before .before .before .before .before .before .before .before .before .before .before .before .pre .4, h .inv .4) } } }
+    let start : Start = search in
+    let turn : Turn = search in
+    let in-loop : In-loop = search in
+    let after-ready : After-ready = search in
+    let r = after-ready .ready in
+    let h = turn .loop in
+    record {
+      in-order = r .ensures .window .in-order;
+      in-input = omega (arith, r .ensures .window .in-input, r .kept .1 .0);
+      step-room = record {
+        few = omega (arith, r .ensures .window .done-is, h .inv .6 (not-true (h .ended) (in-loop .loop-test .taken)));
+        line-fits = r .ensures .line-fits;
+        room = record {
+          first-long = omega (arith, start .pre .2, h .inv .2);
+          second-long = omega (arith, start .pre .3, h .inv .3);
+          work-long = omega (arith, start .pre .4, h .inv .4);
+        };
+      };
+    }
 
 loop-less : tie.Need-loop-less Inv-loop μ-loop
 loop-less c =
-    let r = c .before .before .before .before .before .before .before .before .before .before .before .before .before .before .before .before .before .ready in
-    let h = c .before .before .before .before .before .before .before .before .before .before .before .before .before .before .before .before .before .before .before .before .before .loop in
-    let t = c .before .before .before .before .before .before .before .before .answer in
-    rw (not-true (h .ended) (c .before .before .before .before .before .before .before .before .before .before .before .before .before .before .before .before .before .before .before .before .loop-test .taken))
+    let after-answer : After-answer = search in
+    let after-ready : After-ready = search in
+    let in-loop : In-loop = search in
+    let turn : Turn = search in
+    let r = after-ready .ready in
+    let h = turn .loop in
+    let t = after-answer .answer in
+    rw (not-true (h .ended) (in-loop .loop-test .taken))
     (rw (r .ensures .window .done-is) at
-    (turn-falls _ (r .result .done) (t .result .done) (t .result .ended) (t .ensures .done-is) (t .ensures .ends) (omega (arith, r .ensures .window .done-is, h .inv .6 (not-true (h .ended) (c .before .before .before .before .before .before .before .before .before .before .before .before .before .before .before .before .before .before .before .before .loop-test .taken))))))
+    (turn-falls _ (r .result .done) (t .result .done) (t .result .ended) (t .ensures .done-is) (t .ensures .ends)
+    (omega (arith, r .ensures .window .done-is, h .inv .6 (not-true (h .ended) (in-loop .loop-test .taken))))))
 
 loop-again : tie.Need-loop-again Inv-loop μ-loop
 loop-again c =
-    let r = c .before .before .before .before .before .before .before .before .before .before .before .before .before .before .before .before .before .ready in
-    let h = c .before .before .before .before .before .before .before .before .before .before .before .before .before .before .before .before .before .before .before .before .before .loop in
-    let t = c .before .before .before .before .before .before .before .before .answer in (
+    let turn : Turn = search in
+    let after-ready : After-ready = search in
+    let after-answer : After-answer = search in
+    let r = after-ready .ready in
+    let h = turn .loop in
+    let t = after-answer .answer in (
       r .kept .1 .0 ∙ h .inv .0,
       t .kept .1 .1 .0 ∙ h .inv .1,
       t .kept .1 .1 .1 .0 ∙ h .inv .2,
       t .kept .1 .1 .1 .1 .0 ∙ h .inv .3,
       t .kept .1 .1 .1 .1 .1 .0 ∙ h .inv .4,
-      answered-places (r .result) (t .result) (r .last .1 .0) (h .out) (t .last .1 .1 .0) (r .ensures .window .in-order) (omega (arith, r .ensures .window .in-input, r .kept .1 .0)) (omega (arith, r .ensures .line-fits)) (h .inv .5 .room) (t .kept .1 .1 .0) (t .ensures),
+      answered-places (r .result) (t .result) (r .last .1 .0) (h .out) (t .last .1 .1 .0) (r .ensures .window .in-order)
+          (omega (arith, r .ensures .window .in-input, r .kept .1 .0)) (omega (arith, r .ensures .line-fits)) (h .inv .5 .room)
+          (t .kept .1 .1 .0) (t .ensures),
       λ e. turn-few _ (r .result .done) (t .result .done) (t .result .ended) (t .ensures .done-is) (t .ensures .ends) e,
     )
 
 flush-requires : tie.Need-flush-requires Inv-loop μ-loop
-flush-requires c κs = c .before .before .loop .inv .5 .in-output
+flush-requires c κs = let turn : Turn = search in turn .loop .inv .5 .in-output
 
 same-length-6 : tie.Need-same-length-6 Inv-loop μ-loop
 same-length-6 c = search needs
@@ -97,15 +150,19 @@ returns-2 : tie.Need-returns-2 Inv-loop μ-loop
 returns-2 c = tt
 
 put-end-requires : tie.Need-put-end-requires Inv-loop μ-loop
-put-end-requires c κs = omega (arith, c .before .before .before .before .before .loop .inv .5 .room)
+put-end-requires c κs =
+    let turn : Turn = search in
+    omega (arith, turn .loop .inv .5 .room)
 
 slice-reshare-prefix-write-all : tie.Need-slice-reshare-prefix-write-all Inv-loop μ-loop
 slice-reshare-prefix-write-all c =
-    written-within _ _ _ 0 (c .before .before .put-end .result) (omega arith) (c .before .before .put-end .ensures)
+    let after-put-end : After-put-end = search in
+    written-within _ _ _ 0 (after-put-end .put-end .result) (omega arith) (after-put-end .put-end .ensures)
 
 slice-aggregate-write-all : tie.Need-slice-aggregate-write-all Inv-loop μ-loop
 slice-aggregate-write-all c =
-    sym (length-take-le _ _ (written-within _ _ _ 0 (c .before .before .before .put-end .result) (omega arith) (c .before .before .before .put-end .ensures)))
+    let after-put-end : After-put-end = search in
+    sym (length-take-le _ _ (written-within _ _ _ 0 (after-put-end .put-end .result) (omega arith) (after-put-end .put-end .ensures)))
 
 write-all-requires : tie.Need-write-all-requires Inv-loop μ-loop
 write-all-requires c κs = tt

@@ -36,8 +36,15 @@ same-length c = search needs
 
 returns : tie.Need-returns
 returns c =
-    let a = c .before .before .before .before .before .before .before .before .before .before .before .before .before .args in
-    masked-made (a .p) (now (a .coins)) (now (a .message)) (c .before .before .before .before .before .before .before .before .before .low .result) (c .before .before .before .before .before .before .before .before .padded .result) (c .before .before .before .before .before .before .before .before .before .low .ensures .0) (c .before .before .before .before .before .before .before .before .padded .ensures .0) (c .before .before .before .before .before .before .before .before .before .before .before .before .before .pre .2) (c .before .before .before .before .before .before .shake .ensures) (c .before .before .add-padded .ensures)
+    let start : tie.Start = search in
+    let after-low : tie.After-low = search in
+    let after-padded : tie.After-padded = search in
+    let after-shake : tie.After-shake = search in
+    let after-add-padded : tie.After-add-padded = search in
+    let a = start .args in
+    masked-made (a .p) (now (a .coins)) (now (a .message)) (after-low .low .result) (after-padded .padded .result)
+    (after-low .low .ensures .0) (after-padded .padded .ensures .0) (start .pre .2) (after-shake .shake .ensures)
+    (after-add-padded .add-padded .ensures)
 
 pub masked-stream-spec : {M : Type 1} → statement M
 masked-stream-spec =

@@ -22,21 +22,63 @@ use Rattle.noise.proofs.measure.Statement.{statement}
 use Rattle.noise.proofs.measure.Tie as tie
 
 -- The room of the streams of μ and of γ.
-room : (c : tie.After-masked-stream) → c .before .before .before .before .matrix .result + c .before .before .before .secrets .result ≤ length (now (c .before .before .before .before .before .before .before .before .before .before .args .work))
-room c = omega (arith, c .before .before .before .before .matrix .ensures .0, c .before .before .before .secrets .ensures .0, c .before .before .before .before .before .before .before .before .before .before .pre .work-long)
+room : (c : tie.After-masked-stream) →
+    let start : tie.Start = search in
+    let after-matrix : tie.After-matrix = search in
+    let after-secrets : tie.After-secrets = search in
+    after-matrix .matrix .result + after-secrets .secrets .result ≤ length (now (start .args .work))
+room c =
+    let start : tie.Start = search in
+    let after-matrix : tie.After-matrix = search in
+    let after-secrets : tie.After-secrets = search in
+    omega (arith, after-matrix .matrix .ensures .0, after-secrets .secrets .ensures .0, start .pre .work-long)
 
 -- The streams, once both are written.
-streams : (c : tie.After-masked-stream) → take (c .before .before .before .before .matrix .result + c .before .before .before .secrets .result + c .before .before .stream-length .result - c .before .before .before .before .matrix .result) (drop (c .before .before .before .before .matrix .result) (patched (c .before .before .before .before .matrix .result + c .before .before .before .secrets .result) (c .before .before .before .before .matrix .result + c .before .before .before .secrets .result + c .before .before .stream-length .result - (c .before .before .before .before .matrix .result + c .before .before .before .secrets .result)) (c .masked-stream .last .1 .1 .1 .0) (now (c .before .before .before .before .before .before .before .before .before .before .args .work))))
-    ≡ shake (c .before .before .before .before .before .before .before .before .before .before .args .p .rate) (secretSeed (c .before .before .before .before .before .before .before .before .before .before .args .p) (now (c .before .before .before .before .before .before .before .before .before .before .args .sk))) (secretsLength (c .before .before .before .before .before .before .before .before .before .before .args .p)) ++ maskedStream (c .before .before .before .before .before .before .before .before .before .before .args .p) (now (c .before .before .before .before .before .before .before .before .before .before .args .coins)) (now (c .before .before .before .before .before .before .before .before .before .before .args .message))
+streams : (c : tie.After-masked-stream) →
+    let start : tie.Start = search in
+    let after-matrix : tie.After-matrix = search in
+    let after-secrets : tie.After-secrets = search in
+    let after-stream-length : tie.After-stream-length = search in
+    take (after-matrix .matrix .result + after-secrets .secrets .result +
+    after-stream-length .stream-length .result - after-matrix .matrix .result)
+    (drop (after-matrix .matrix .result)
+    (patched (after-matrix .matrix .result + after-secrets .secrets .result)
+    (after-matrix .matrix .result + after-secrets .secrets .result +
+    after-stream-length .stream-length .result - (after-matrix .matrix .result + after-secrets .secrets .result))
+    (c .masked-stream .last .1 .1 .1 .0) (now (start .args .work))))
+    ≡ shake (start .args .p .rate) (secretSeed (start .args .p) (now (start .args .sk))) (secretsLength (start .args .p)) ++
+    maskedStream (start .args .p) (now (start .args .coins)) (now (start .args .message))
 streams c =
-    let a = c .before .before .before .before .before .before .before .before .before .before .args in
-    streams-written (a .p) (now (a .sk)) (now (a .coins)) (now (a .message)) (now (a .work)) (c .before .before .before .before .matrix .ensures .0) (c .before .before .before .secrets .ensures .0) (c .before .before .stream-length .ensures .0) (room c) (c .before .before .before .before .before .before .before .before .before .before .pre .stream-kept) (c .masked-stream .ensures)
+    let start : tie.Start = search in
+    let after-matrix : tie.After-matrix = search in
+    let after-secrets : tie.After-secrets = search in
+    let after-stream-length : tie.After-stream-length = search in
+    let a = start .args in
+    streams-written (a .p) (now (a .sk)) (now (a .coins)) (now (a .message)) (now (a .work)) (after-matrix .matrix .ensures .0)
+    (after-secrets .secrets .ensures .0) (after-stream-length .stream-length .ensures .0) (room c) (start .pre .stream-kept)
+    (c .masked-stream .ensures)
 
 -- That of γ stays.
-kept : (c : tie.After-masked-stream) → Kept (c .before .before .before .before .before .before .before .before .before .before .args .p) (now (c .before .before .before .before .before .before .before .before .before .before .args .sk)) (patched (c .before .before .before .before .matrix .result + c .before .before .before .secrets .result) (c .before .before .before .before .matrix .result + c .before .before .before .secrets .result + c .before .before .stream-length .result - (c .before .before .before .before .matrix .result + c .before .before .before .secrets .result)) (c .masked-stream .last .1 .1 .1 .0) (now (c .before .before .before .before .before .before .before .before .before .before .args .work)))
+kept : (c : tie.After-masked-stream) →
+    let start : tie.Start = search in
+    let after-matrix : tie.After-matrix = search in
+    let after-secrets : tie.After-secrets = search in
+    let after-stream-length : tie.After-stream-length = search in
+    Kept (start .args .p) (now (start .args .sk))
+    (patched (after-matrix .matrix .result + after-secrets .secrets .result)
+    (after-matrix .matrix .result + after-secrets .secrets .result +
+    after-stream-length .stream-length .result - (after-matrix .matrix .result + after-secrets .secrets .result))
+    (c .masked-stream .last .1 .1 .1 .0) (now (start .args .work)))
 kept c =
-    let a = c .before .before .before .before .before .before .before .before .before .before .args in
-    stream-stays (a .p) (now (a .sk)) (now (a .work)) (c .masked-stream .last .1 .1 .1 .0) (c .before .before .before .before .matrix .result + c .before .before .before .secrets .result + c .before .before .stream-length .result - (c .before .before .before .before .matrix .result + c .before .before .before .secrets .result)) (c .before .before .before .before .matrix .ensures .0) (c .before .before .before .secrets .ensures .0) (room c) (c .before .before .before .before .before .before .before .before .before .before .pre .stream-kept)
+    let start : tie.Start = search in
+    let after-matrix : tie.After-matrix = search in
+    let after-secrets : tie.After-secrets = search in
+    let after-stream-length : tie.After-stream-length = search in
+    let a = start .args in
+    stream-stays (a .p) (now (a .sk)) (now (a .work)) (c .masked-stream .last .1 .1 .1 .0)
+    (after-matrix .matrix .result + after-secrets .secrets .result +
+    after-stream-length .stream-length .result - (after-matrix .matrix .result + after-secrets .secrets .result))
+    (after-matrix .matrix .ensures .0) (after-secrets .secrets .ensures .0) (room c) (start .pre .stream-kept)
 
 matrix-requires : tie.Need-matrix-requires
 matrix-requires c κs = search needs
@@ -76,13 +118,14 @@ part-sizes-end c = search needs
 
 sizes-requires : tie.Need-sizes-requires
 sizes-requires c κs =
-    let a = c .before .before .before .before .before .before .before .before .before .before .before .before .before .before .args in
-    let pre = c .before .before .before .before .before .before .before .before .before .before .before .before .before .before .pre in
+    let start : tie.Start = search in
+    let a = start .args in
+    let pre = start .pre in
     record {
       well = pre .well;
       value-long = ap length (pre .value-is) ∙ length-value (a .p) (pre .well) (now (a .sk));
       coins-long = pre .coins-long;
-      streams-long = ap length (streams (c .before .before .before .before)) ∙ streams-size (a .p) (now (a .sk)) (now (a .coins)) (now (a .message));
+      streams-long = ap length (streams (search)) ∙ streams-size (a .p) (now (a .sk)) (now (a .coins)) (now (a .message));
     }
 
 same-length : tie.Need-same-length
@@ -91,13 +134,16 @@ same-length c = search needs
 returns : tie.Need-returns
 unfolding clearUnder largestUnder clear
 returns c =
-    let a = c .before .before .before .before .before .before .before .before .before .before .before .before .before .before .before .args in
+    let start : tie.Start = search in
+    let after-masked-stream : tie.After-masked-stream = search in
+    let a = start .args in
     let p = a .p in
-    let pre = c .before .before .before .before .before .before .before .before .before .before .before .before .before .before .before .pre in
-    let all = ap (noisesFrom p (now (a .b)) (now (a .coins))) (streams (c .before .before .before .before .before)) ∙ noises-are p (pre .well) (now (a .sk)) (now (a .b)) (now (a .coins)) (now (a .message)) (pre .value-is) in (
+    let pre = start .pre in
+    let all = ap (noisesFrom p (now (a .b)) (now (a .coins))) (streams after-masked-stream) ∙
+    noises-are p (pre .well) (now (a .sk)) (now (a .b)) (now (a .coins)) (now (a .message)) (pre .value-is) in (
       c .sizes .ensures .0 ∙ ap (inside (modulus p)) all,
       c .sizes .ensures .1 ∙ ap largest all,
-      kept (c .before .before .before .before .before),
+      kept after-masked-stream,
     )
 
 pub measure-spec : {M : Type 1} → statement M

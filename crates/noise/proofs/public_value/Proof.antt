@@ -18,19 +18,50 @@ use Rattle.noise.proofs.Streams.{matrix-seed-part, secret-seed-part, st
 use Rattle.noise.proofs.public_value.Statement.{statement}
 use Rattle.noise.proofs.public_value.Tie as tie
 
+-- From a place back to one that is far before it.
+abbrev start-of-work : tie.After-work → tie.Start
+start-of-work c = search
+
+ruleset places = (start-of-work)
+
 -- The streams of μ and γ, once both are written.
-streams : (c : tie.After-shake2) → take (c .before .before .before .before .before .before .before .before .before .before .before .before .matrix .result + c .before .before .before .before .before .before .before .before .before .before .before .secrets .result) (patched (c .before .before .before .before .before .before .before .before .before .before .before .before .matrix .result) (c .before .before .before .before .before .before .before .before .before .before .before .before .matrix .result + c .before .before .before .before .before .before .before .before .before .before .before .secrets .result - c .before .before .before .before .before .before .before .before .before .before .before .before .matrix .result) (c .shake2 .last .1 .1 .0) (c .before .before .before .before .before .shake .last .1 .1 .0 ++ drop (c .before .before .before .before .before .before .before .before .before .before .before .before .matrix .result) (now (c .before .before .before .before .before .before .before .before .before .before .before .before .before .before .before .before .args .work))))
-    ≡ keyStreams (c .before .before .before .before .before .before .before .before .before .before .before .before .before .before .before .before .args .p) (matrixSeed (c .before .before .before .before .before .before .before .before .before .before .before .before .before .before .before .before .args .p) (publicPart (c .before .before .before .before .before .before .before .before .before .before .before .before .before .before .before .before .args .p) (now (c .before .before .before .before .before .before .before .before .before .before .before .before .before .before .before .before .args .sk)))) (secretSeed (c .before .before .before .before .before .before .before .before .before .before .before .before .before .before .before .before .args .p) (now (c .before .before .before .before .before .before .before .before .before .before .before .before .before .before .before .before .args .sk)))
+streams : (c : tie.After-shake2) →
+    let start : tie.Start = search in
+    let after-matrix : tie.After-matrix = search in
+    let after-secrets : tie.After-secrets = search in
+    let after-shake : tie.After-shake = search in
+    take (after-matrix .matrix .result + after-secrets .secrets .result)
+    (patched (after-matrix .matrix .result)
+    (after-matrix .matrix .result + after-secrets .secrets .result - after-matrix .matrix .result) (c .shake2 .last .1 .1 .0)
+    (after-shake .shake .last .1 .1 .0 ++ drop (after-matrix .matrix .result) (now (start .args .work))))
+    ≡ keyStreams (start .args .p) (matrixSeed (start .args .p) (publicPart (start .args .p) (now (start .args .sk))))
+    (secretSeed (start .args .p) (now (start .args .sk)))
 streams c =
-    let p = c .before .before .before .before .before .before .before .before .before .before .before .before .before .before .before .before .args .p in
-    let sk = now (c .before .before .before .before .before .before .before .before .before .before .before .before .before .before .before .before .args .sk) in
-    let pre = c .before .before .before .before .before .before .before .before .before .before .before .before .before .before .before .before .pre in
-    let m = c .before .before .before .before .before .before .before .before .before .before .before .before .matrix .ensures .0 in
-    let s = c .before .before .before .before .before .before .before .before .before .before .before .secrets .ensures .0 in
-    let at = c .before .before .before .before .before .before .before .before .before .before .stored .ensures .0 in
-    let room : c .before .before .before .before .before .before .before .before .before .before .before .before .matrix .result + c .before .before .before .before .before .before .before .before .before .before .before .secrets .result ≤ length (now (c .before .before .before .before .before .before .before .before .before .before .before .before .before .before .before .before .args .work)) = omega (arith, m, s, pre .work-long) in
-    streams-made p (now (c .before .before .before .before .before .before .before .before .before .before .before .before .before .before .before .before .args .work)) _ _ m s room (c .before .before .before .before .before .shake .ensures) (c .shake2 .ensures)
+    let p = start .args .p in
+    let sk = now (start .args .sk) in
+    let pre = start .pre in
+    let m = after-matrix .matrix .ensures .0 in
+    let s = after-secrets .secrets .ensures .0 in
+    let at = after-stored .stored .ensures .0 in
+    let room : after-matrix .matrix .result + after-secrets .secrets .result ≤
+    length (now (start .args .work)) = omega (arith, m, s, pre .work-long) in
+    streams-made p (now (start .args .work)) _ _ m s room (after-shake .shake .ensures) (c .shake2 .ensures)
     ∙ ap₂ (keyStreams p) (matrix-seed-part p sk (pre .secret-long) at) (secret-seed-part p sk at)
+  where
+    start : tie.Start
+    start = search
+
+    after-matrix : tie.After-matrix
+    after-matrix = search
+
+    after-secrets : tie.After-secrets
+    after-secrets = search
+
+    after-stored : tie.After-stored
+    after-stored = search
+
+    after-shake : tie.After-shake
+    after-shake = search
 
 matrix-requires : tie.Need-matrix-requires
 matrix-requires c κs = search needs
@@ -63,7 +94,10 @@ slice-relend-prefix-shake : tie.Need-slice-relend-prefix-shake
 slice-relend-prefix-shake c = search needs
 
 slice-aggregate-shake : tie.Need-slice-aggregate-shake
-slice-aggregate-shake c = simp length-take (omega (arith, c .before .before .before .before .before .before .matrix .ensures .0, c .before .before .before .before .before .before .before .before .before .before .pre .work-long))
+slice-aggregate-shake c =
+    let start : tie.Start = search in
+    let after-matrix : tie.After-matrix = search in
+    simp length-take (omega (arith, after-matrix .matrix .ensures .0, start .pre .work-long))
 
 shake-requires : tie.Need-shake-requires
 shake-requires c κs = search needs
@@ -94,26 +128,50 @@ slice-reshare-prefix-public-polynomials c = search needs
 
 slice-aggregate-public-polynomials : tie.Need-slice-aggregate-public-polynomials
 slice-aggregate-public-polynomials c =
-    let p = c .before .before .before .before .before .before .before .before .before .before .before .before .before .before .before .before .before .before .before .args .p in
-    sym (ap length (streams (c .before .before .before)) ∙ streams-long p _ _ ∙ sym (ap₂ _+_ (c .before .before .before .before .before .before .before .before .before .before .before .before .before .before .before .matrix .ensures .0) (c .before .before .before .before .before .before .before .before .before .before .before .before .before .before .secrets .ensures .0)))
+    sym (ap length (streams after-shake2) ∙ streams-long (start .args .p) _ _ ∙
+    sym (ap₂ _+_ (after-matrix .matrix .ensures .0) (after-secrets .secrets .ensures .0)))
+  where
+    start : tie.Start
+    start = search
+
+    after-matrix : tie.After-matrix
+    after-matrix = search
+
+    after-secrets : tie.After-secrets
+    after-secrets = search
+
+    after-shake2 : tie.After-shake2
+    after-shake2 = search
 
 public-polynomials-requires : tie.Need-public-polynomials-requires
 public-polynomials-requires c κs =
-    let p = c .before .before .before .before .before .before .before .before .before .before .before .before .before .before .before .before .before .before .before .before .args .p in
-    let pre = c .before .before .before .before .before .before .before .before .before .before .before .before .before .before .before .before .before .before .before .before .pre in
-    let whole : p .k - 0 ≡ p .k = omega arith in
-    (pre .well, omega (arith, pre .well .quarters), ap length (streams (c .before .before .before .before)) ∙ streams-long p _ _, pre .value-long ∙ ap (lengthOf p (p .l)) (sym whole))
+    let start : tie.Start = search in
+    let p = start .args .p in
+    let pre = start .pre in
+    let whole : p .k - 0 ≡ p .k = omega arith in (
+      pre .well,
+      omega (arith, pre .well .quarters),
+      ap length (streams (search)) ∙ streams-long p _ _,
+      pre .value-long ∙
+          ap (lengthOf p (p .l)) (sym whole),
+    )
 
 slice-aggregate-agree : tie.Need-slice-aggregate-agree
-slice-aggregate-agree c = simp length-take (omega (arith, c .before .before .before .before .before .before .before .before .before .before .before .before .before .before .before .before .before .before .before .stored .ensures .0, c .before .before .before .before .before .before .before .before .before .before .before .before .before .before .before .before .before .before .before .before .before .before .before .before .before .pre .secret-long))
+slice-aggregate-agree c =
+    let start : tie.Start = search places in
+    let after-stored : tie.After-stored = search in
+    simp length-take (omega (arith, after-stored .stored .ensures .0, start .pre .secret-long))
 
 agree-requires : tie.Need-agree-requires
 agree-requires c κs =
-    let pre = c .before .before .before .before .before .before .before .before .before .before .before .before .before .before .before .before .before .before .before .before .before .before .before .before .before .pre in
+    let start : tie.Start = search places in
+    let after-stored : tie.After-stored = search in
+    let after-public-polynomials : tie.After-public-polynomials = search in
+    let pre = start .pre in
     record {
       well = pre .well;
-      value-long = c .before .before .before .before .public-polynomials .kept .1 .1 .1 .0 ∙ pre .value-long;
-      stored-long = simp length-take (omega (arith, c .before .before .before .before .before .before .before .before .before .before .before .before .before .before .before .before .before .before .before .stored .ensures .0, pre .secret-long));
+      value-long = after-public-polynomials .public-polynomials .kept .1 .1 .1 .0 ∙ pre .value-long;
+      stored-long = simp length-take (omega (arith, after-stored .stored .ensures .0, pre .secret-long));
     }
 
 same-length : tie.Need-same-length
@@ -124,11 +182,21 @@ same-length-2 c = search needs
 
 returns : tie.Need-returns
 returns c =
-    let p = c .before .before .before .before .before .before .before .before .before .before .before .before .before .before .before .before .before .before .before .before .before .before .before .before .before .before .args .p in
-    let sk = now (c .before .before .before .before .before .before .before .before .before .before .before .before .before .before .before .before .before .before .before .before .before .before .before .before .before .before .args .sk) in
-    let pre = c .before .before .before .before .before .before .before .before .before .before .before .before .before .before .before .before .before .before .before .before .before .before .before .before .before .before .pre in
-    let value = value-made p sk _ (streams (c .before .before .before .before .before .before .before .before .before .before)) (c .before .before .before .before .before .public-polynomials .ensures) in
-    (c .agree .ensures ∙ ap (λ (b : List ℕ). same (take (c .before .before .before .before .before .before .before .before .before .before .before .before .before .before .before .before .before .before .before .before .stored .result) sk) (droppedBits p b)) value ∙ agrees-is p (pre .well) sk (pre .secret-long) (c .before .before .before .before .before .before .before .before .before .before .before .before .before .before .before .before .before .before .before .before .stored .ensures .0), value, stream-there p sk _ _ (c .before .before .before .before .before .before .before .before .before .before .before .before .before .before .before .before .before .before .before .before .before .before .matrix .ensures .0) (c .before .before .before .before .before .before .before .before .before .before .before .before .before .before .before .before .before .before .before .before .before .secrets .ensures .0) (streams (c .before .before .before .before .before .before .before .before .before .before)))
+    let after-public-polynomials : tie.After-public-polynomials = search in
+    let after-shake2 : tie.After-shake2 = search in
+    let after-stored : tie.After-stored = search in
+    let after-secrets : tie.After-secrets = search in
+    let after-matrix : tie.After-matrix = search in
+    let start : tie.Start = search in
+    let p = start .args .p in
+    let sk = now (start .args .sk) in
+    let pre = start .pre in
+    let value = value-made p sk _ (streams after-shake2) (after-public-polynomials .public-polynomials .ensures) in (
+      c .agree .ensures ∙ ap (λ (b : List ℕ). same (take (after-stored .stored .result) sk) (droppedBits p b)) value ∙
+          agrees-is p (pre .well) sk (pre .secret-long) (after-stored .stored .ensures .0),
+      value,
+      stream-there p sk _ _ (after-matrix .matrix .ensures .0) (after-secrets .secrets .ensures .0) (streams after-shake2),
+    )
 
 pub public-value-spec : {M : Type 1} → statement M
 public-value-spec =

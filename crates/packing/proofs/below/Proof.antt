@@ -26,21 +26,24 @@ shr-result c = search needs
 
 mul-result : tie.Need-mul-result
 mul-result c =
-    let a = c .before .args in
-    rw (power-from (a .w) (c .before .pre .0)) (omega (arith, below-fits (a .w) (a .c) (a .high) (c .before .pre .0)))
+    let start : tie.Start = search in
+    let a = start .args in
+    rw (power-from (a .w) (start .pre .0)) (omega (arith, below-fits (a .w) (a .c) (a .high) (start .pre .0)))
 
 add-result : tie.Need-add-result
 add-result c =
-    let a = c .before .args in
-    rw (power-from (a .w) (c .before .pre .0)) (omega (arith, c .low-bits .ensures, below-fits (a .w) (a .c) (a .high) (c .before .pre .0)))
+    let start : tie.Start = search in
+    let a = start .args in
+    rw (power-from (a .w) (start .pre .0)) (omega (arith, c .low-bits .ensures, below-fits (a .w) (a .c) (a .high) (start .pre .0)))
 
 returns : tie.Need-returns
 returns c =
-    let a = c .before .args in
+    let start : tie.Start = search in
+    let a = start .args in
     let is : c .low-bits .result + 65536 / 2 ^ (16 - a .w) * a .high ≡ a .c % 2 ^ a .w + 2 ^ a .w * a .high =
-    ap₂ (λ (x y : ℕ). x + y * a .high) (c .low-bits .ensures) (power-from (a .w) (c .before .pre .0))
+    ap₂ (λ (x y : ℕ). x + y * a .high) (c .low-bits .ensures) (power-from (a .w) (start .pre .0))
     in
-    (is, rw is (below-fits (a .w) (a .c) (a .high) (c .before .pre .0)))
+    (is, rw is (below-fits (a .w) (a .c) (a .high) (start .pre .0)))
 
 pub below-spec : {M : Type 1} → statement M
 below-spec =

@@ -15,7 +15,9 @@ returns : tie.Need-returns
 returns c = search needs
 
 returns-2 : tie.Need-returns-2
-returns-2 c = sym (List·getD-eq-default (now (c .before .args .s)) 0 (omega arith))
+returns-2 c =
+    let start : tie.Start = search in
+    sym (List·getD-eq-default (now (start .args .s)) 0 (omega arith))
 
 pub byte-or-zero-spec : {M : Type 1} → statement M
 byte-or-zero-spec = tie.close (tie.spec shared-slice-read-result returns returns-2)

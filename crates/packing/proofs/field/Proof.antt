@@ -31,11 +31,14 @@ low-bits-requires c κs = search needs
 
 returns : tie.Need-returns
 returns c =
-    let a = c .before .before .before .before .args in
+    let start : tie.Start = search in
+    let after-shared-slice-known : tie.After-shared-slice-known = search in
+    let after-low-word : tie.After-low-word = search in
+    let a = start .args in
     let src = now (a .src) in
-    let bytes : Below 256 src = λ i. c .before .before .before .shared-slice-known .given i .fits in
+    let bytes : Below 256 src = λ i. after-shared-slice-known .shared-slice-known .given i .fits in
     c .low-bits .ensures
-    ∙ ap (λ (x : ℕ). x / 2 ^ a .shift % 2 ^ a .w) (c .before .low-word .ensures ∙ rw take-rest)
+    ∙ ap (λ (x : ℕ). x / 2 ^ a .shift % 2 ^ a .w) (after-low-word .low-word .ensures ∙ rw take-rest)
     ∙ field-is 32 (a .w) (a .k) (a .shift) src bytes (omega arith)
 
 pub field-spec : {M : Type 1} → statement M

@@ -35,12 +35,17 @@ below-requires-4 c κs = search needs
 
 returns : tie.Need-returns
 returns c =
-    let a = c .before .before .before .before .before .before .before .before .before .args in
+    let start : tie.Start = search in
+    let after-below : tie.After-below = search in
+    let after-below2 : tie.After-below2 = search in
+    let after-below3 : tie.After-below3 = search in
+    let a = start .args in
     let src = now (a .src) in
     let under : ℕ → ℕ → ℕ = λ i high. getD src i 0 % 2 ^ a .w + 2 ^ a .w * high in
     c .below4 .ensures .0
-    ∙ ap (under 0) (c .before .below3 .ensures .0 ∙ ap (under 1) (c .before .before .below2 .ensures .0 ∙ ap (under 2) (c .before .before .before .below .ensures .0)))
-    ∙ four-value (a .w) src (c .before .before .before .before .before .before .before .before .before .pre .1)
+    ∙ ap (under 0) (after-below3 .below3 .ensures .0 ∙
+    ap (under 1) (after-below2 .below2 .ensures .0 ∙ ap (under 2) (after-below .below .ensures .0)))
+    ∙ four-value (a .w) src (start .pre .1)
 
 pub four-spec : {M : Type 1} → statement M
 four-spec =

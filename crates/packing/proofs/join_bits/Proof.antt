@@ -21,19 +21,24 @@ shl-result c = search needs
 
 -- The bits that are added stand above the pending ones.
 joined : (c : tie.After-low-bits)
-    → c .before .args .pending + 2 ^ c .before .args .count * c .low-bits .result < 2 ^ (c .before .args .count + c .before .args .w)
+    →
+    let start : tie.Start = search in
+    start .args .pending + 2 ^ start .args .count * c .low-bits .result < 2 ^ (start .args .count + start .args .w)
 joined c =
-    let a = c .before .args in
-    join-fits (a .w) (a .count) (c .before .pre .2) (rw (c .low-bits .ensures) (mod-lt _ (pow-pos (a .w))))
+    let start : tie.Start = search in
+    let a = start .args in
+    join-fits (a .w) (a .count) (start .pre .2) (rw (c .low-bits .ensures) (mod-lt _ (pow-pos (a .w))))
 
 add-result : tie.Need-add-result
 add-result c =
-    let narrow : c .before .args .count + c .before .args .w ≤ 23 = omega arith in
+    let start : tie.Start = search in
+    let narrow : start .args .count + start .args .w ≤ 23 = omega arith in
     omega (arith, joined c, pow-mono narrow)
 
 returns : tie.Need-returns
 returns c =
-    let a = c .before .args in
+    let start : tie.Start = search in
+    let a = start .args in
     let narrow : a .count + a .w ≤ 23 = omega arith in
     let same : a .pending + c .low-bits .result * 2 ^ a .count % 4294967296 ≡ a .pending + 2 ^ a .count * c .low-bits .result =
     omega (arith, joined c, pow-mono narrow)

@@ -25,8 +25,10 @@ join-requires c κs = search needs
 
 returns : tie.Need-returns
 returns c =
-    let s = now (c .before .before .before .before .before .before .before .args .s) in
-    let bytes : Below 256 s = λ i. c .before .shared-slice-known5 .given i .fits in
+    let start : tie.Start = search in
+    let after-shared-slice-known5 : tie.After-shared-slice-known5 = search in
+    let s = now (start .args .s) in
+    let bytes : Below 256 s = λ i. after-shared-slice-known5 .shared-slice-known5 .given i .fits in
     c .join .ensures ∙ sym (four-bytes s bytes)
 
 byte-or-zero-requires : tie.Need-byte-or-zero-requires
@@ -46,14 +48,20 @@ join-requires-2 c κs = search needs
 
 returns-2 : tie.Need-returns-2
 returns-2 c =
-    let s = now (c .before .before .before .before .before .before .before .args .s) in
-    let bytes : Below 256 s = λ i. c .before .before .before .before .before .before .shared-slice-known .given i .fits in
+    let start : tie.Start = search in
+    let after-shared-slice-known : tie.After-shared-slice-known = search in
+    let after-byte-or-zero : tie.After-byte-or-zero = search in
+    let after-byte-or-zero2 : tie.After-byte-or-zero2 = search in
+    let after-byte-or-zero3 : tie.After-byte-or-zero3 = search in
+    let after-byte-or-zero4 : tie.After-byte-or-zero4 = search in
+    let s = now (start .args .s) in
+    let bytes : Below 256 s = λ i. after-shared-slice-known .shared-slice-known .given i .fits in
     c .join2 .ensures
     ∙ rw (
-      c .before .before .before .before .byte-or-zero .ensures,
-      c .before .before .before .byte-or-zero2 .ensures,
-      c .before .before .byte-or-zero3 .ensures,
-      c .before .byte-or-zero4 .ensures,
+      after-byte-or-zero .byte-or-zero .ensures,
+      after-byte-or-zero2 .byte-or-zero2 .ensures,
+      after-byte-or-zero3 .byte-or-zero3 .ensures,
+      after-byte-or-zero4 .byte-or-zero4 .ensures,
     ) (sym (four-bytes s bytes))
 
 pub low-word-spec : {M : Type 1} → statement M

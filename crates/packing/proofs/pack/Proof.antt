@@ -46,13 +46,15 @@ part-pack-each-end-2 c = search needs
 
 pack-each-requires : tie.Need-pack-each-requires
 pack-each-requires c κs =
-    let a = c .before .before .before .before .before .before .before .before .args in
+    let start : tie.Start = search in
+    let after-pack-eights : tie.After-pack-eights = search in
+    let a = start .args in
     let src = now (a .src) in
-    let e = c .before .before .before .before .pack-eights in
+    let e = after-pack-eights .pack-eights in
     let t = e .result in
     let after = e .last .1 .1 .0 in
     let n = length src - 8 * t in
-    let long : length after ≡ bytesFor (a .w * length src) = e .kept .1 .1 .0 ∙ c .before .before .before .before .before .before .before .before .pre .1 in
+    let long : length after ≡ bytesFor (a .w * length src) = e .kept .1 .1 .0 ∙ start .pre .1 in
     let room : bytesFor (a .w * length src) - a .w * t ≡ bytesFor (a .w * n) = rest-bytes (a .w) (length src) t (e .ensures .0) in
     (omega arith, rw (take-rest (a .w * t) after, take-rest (8 * t) src, length-drop, length-drop, long) room)
 
@@ -61,13 +63,16 @@ same-length c = search needs
 
 returns : tie.Need-returns
 returns c =
-    let a = c .before .before .before .before .before .before .before .before .before .before .before .args in
+    let start : tie.Start = search in
+    let after-pack-eights : tie.After-pack-eights = search in
+    let after-pack-each : tie.After-pack-each = search in
+    let a = start .args in
     let src = now (a .src) in
-    let e = c .before .before .before .before .before .before .before .pack-eights in
+    let e = after-pack-eights .pack-eights in
     let t = e .result in
     let after = e .last .1 .1 .0 in
     let n = length src - 8 * t in
-    let rest = c .before .before .pack-each in
+    let rest = after-pack-each .pack-each in
     let place : a .w * (8 * t) ≡ 8 * (a .w * t) = omega arith in
     let within : 8 * t ≤ length src = e .ensures .0 in
     let all : take (8 * t + n) src ≡ src = take-all (8 * t + n) src (omega arith) in

@@ -17,8 +17,17 @@ Inv-loop w src dst₀ pending₀ count₀ k₀ i₀ dst pending count k i = Pack
 abbrev μ-loop : tie.MeasureT-loop
 μ-loop w src dst₀ pending₀ count₀ k₀ i₀ dst pending count k i = length src - i
 
+-- The places of the code that the answers name.
+abbrev Start : Type 0
+Start = tie.Start Inv-loop μ-loop
+
+abbrev Turn : Type 0
+Turn = tie.At-loop Inv-loop μ-loop
+
 loop-holds : tie.Need-loop-holds Inv-loop μ-loop
-loop-holds c = packed-none (c .before .before .args .w) (now (c .before .before .args .src)) (now (c .before .before .args .dst)) (c .before .before .pre .1)
+loop-holds c =
+    let start : Start = search in
+    packed-none (start .args .w) (now (start .args .src)) (now (start .args .dst)) (start .pre .1)
 
 mul-join-bits : tie.Need-mul-join-bits Inv-loop μ-loop
 mul-join-bits c = omega arith
@@ -27,19 +36,25 @@ shared-slice-read-join-bits : tie.Need-shared-slice-read-join-bits Inv-loop μ-l
 shared-slice-read-join-bits c = omega arith
 
 join-bits-requires : tie.Need-join-bits-requires Inv-loop μ-loop
-join-bits-requires c κs = (omega arith, omega arith, c .before .before .loop .inv .small)
+join-bits-requires c κs =
+    let turn : Turn = search in
+    (omega arith, omega arith, turn .loop .inv .small)
 
 sub-put : tie.Need-sub-put Inv-loop μ-loop
 sub-put c =
-    let h = c .before .before .before .loop in
-    let a = c .before .before .before .before .before .before .args in
+    let start : Start = search in
+    let turn : Turn = search in
+    let h = turn .loop in
+    let a = start .args in
     let room : h .k ≤ length (h .dst) = packed-room (a .w) (now (a .src)) (h .i) (h .k) (h .count) (h .pending) (h .dst) (h .inv) in
     omega arith
 
 part-put-start : tie.Need-part-put-start Inv-loop μ-loop
 part-put-start c =
-    let h = c .before .before .before .loop in
-    let a = c .before .before .before .before .before .before .args in
+    let start : Start = search in
+    let turn : Turn = search in
+    let h = turn .loop in
+    let a = start .args in
     let room : h .k ≤ length (h .dst) = packed-room (a .w) (now (a .src)) (h .i) (h .k) (h .count) (h .pending) (h .dst) (h .inv) in
     omega arith
 
@@ -66,8 +81,10 @@ cast-k c = omega arith
 
 add-k : tie.Need-add-k Inv-loop μ-loop
 add-k c =
-    let h = c .before .before .before .before .before .before .before .loop in
-    let a = c .before .before .before .before .before .before .before .before .before .before .args in
+    let start : Start = search in
+    let turn : Turn = search in
+    let h = turn .loop in
+    let a = start .args in
     let room : h .k ≤ length (h .dst) = packed-room (a .w) (now (a .src)) (h .i) (h .k) (h .count) (h .pending) (h .dst) (h .inv) in
     omega arith
 
@@ -79,22 +96,33 @@ loop-less c = omega arith
 
 loop-again : tie.Need-loop-again Inv-loop μ-loop
 loop-again c =
-    let h = c .before .before .before .before .before .before .before .loop in
-    let a = c .before .before .before .before .before .before .before .before .before .before .args in
-    let bits = c .before .before .before .before .join-bits in
+    let start : Start = search in
+    let turn : Turn = search in
+    let after-join-bits : tie.After-join-bits Inv-loop μ-loop = search in
+    let after-put : tie.After-put Inv-loop μ-loop = search in
+    let h = turn .loop in
+    let a = start .args in
+    let bits = after-join-bits .join-bits in
     let room : h .k ≤ length (h .dst) = packed-room (a .w) (now (a .src)) (h .i) (h .k) (h .count) (h .pending) (h .dst) (h .inv) in
-    let part = c .before .before .put in
-    let same : length (take (length (h .dst) - h .k) (drop (h .k) (h .dst))) ≡ length (h .dst) - h .k = simp (length-take, length-drop) (omega arith) in
+    let part = after-put .put in
+    let same : length (take (length (h .dst) - h .k) (drop (h .k) (h .dst))) ≡
+    length (h .dst) - h .k = simp (length-take, length-drop) (omega arith) in
     let long : length (part .last .0) ≡ length (h .dst) - h .k = part .kept .0 ∙ same in
     rw (patched-rest (h .k) (part .last .0) (h .dst))
-    (packed-more (a .w) (now (a .src)) (h .i) (h .k) (h .count) (h .pending) (bits .result) (h .dst) (part .last .0) (omega arith) (omega arith) (h .inv)
+    (packed-more (a .w) (now (a .src)) (h .i) (h .k) (h .count) (h .pending) (bits .result) (h .dst) (part .last .0) (omega arith)
+    (omega arith) (h .inv)
     (bits .ensures .0) long (part .ensures ∙ rw same))
 
 same-length : tie.Need-same-length Inv-loop μ-loop
-same-length c = c .before .loop .inv .long ∙ sym (c .before .before .before .before .pre .1)
+same-length c =
+    let start : Start = search in
+    let turn : Turn = search in
+    turn .loop .inv .long ∙ sym (start .pre .1)
 
 returns : tie.Need-returns Inv-loop μ-loop
-returns c = packed-all _ _ _ _ _ _ _ (omega arith) (c .before .loop .inv)
+returns c =
+    let turn : Turn = search in
+    packed-all _ _ _ _ _ _ _ (omega arith) (turn .loop .inv)
 
 pub pack-each-spec : {M : Type 1} → statement M
 pack-each-spec =

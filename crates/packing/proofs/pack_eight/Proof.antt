@@ -49,11 +49,14 @@ part-put-word-end c = search needs
 
 upper-requires : tie.Need-upper-requires
 upper-requires c κs =
-    let a = c .before .before .before .before .before .before .before .before .before .before .before .args in
+    let start : tie.Start = search in
+    let after-four : tie.After-four = search in
+    let after-four2 : tie.After-four2 = search in
+    let a = start .args in
     let src = now (a .src) in (
       omega arith,
-      rw (c .before .before .before .before .before .before .before .four .ensures) (four-below (a .w) (take 4 src) (simp length-take (omega arith))),
-      rw (c .before .before .before .before .before .four2 .ensures, take-rest 4 src) (four-below (a .w) (drop 4 src) (simp length-drop (omega arith))),
+      rw (after-four .four .ensures) (four-below (a .w) (take 4 src) (simp length-take (omega arith))),
+      rw (after-four2 .four2 .ensures, take-rest 4 src) (four-below (a .w) (drop 4 src) (simp length-drop (omega arith))),
     )
 
 put-word-requires-2 : tie.Need-put-word-requires-2
@@ -64,19 +67,26 @@ same-length c = search needs
 
 returns : tie.Need-returns
 returns c =
-    let a = c .before .before .before .before .before .before .before .before .before .before .before .before .before .before .before .args in
+    let start : tie.Start = search in
+    let after-four : tie.After-four = search in
+    let after-four2 : tie.After-four2 = search in
+    let after-put-word : tie.After-put-word = search in
+    let after-upper : tie.After-upper = search in
+    let after-put-word2 : tie.After-put-word2 = search in
+    let a = start .args in
     let src = now (a .src) in
     let half = a .w / 2 in
-    let first = c .before .before .before .before .before .before .before .put-word in
-    let second = c .before .before .put-word2 in
-    let low = c .before .before .before .before .before .before .before .before .before .before .before .four .ensures in
-    let high = c .before .before .before .before .before .before .before .before .before .four2 .ensures ∙ ap (λ (l : List ℕ). value (a .w) (lowBits (a .w) l)) (take-rest 4 src) in
+    let first = after-put-word .put-word in
+    let second = after-put-word2 .put-word2 in
+    let low = after-four .four .ensures in
+    let high = after-four2 .four2 .ensures ∙ ap (λ (l : List ℕ). value (a .w) (lowBits (a .w) l)) (take-rest 4 src) in
     let rest = drop 8 (take (length (first .last .0) - half) (drop half (first .last .0))) in
     let word = ap (λ (x : ℕ). digits 8 8 x ++ drop 8 (now (a .dst))) low in
-    let upper = c .before .before .before .upper .ensures ∙ ap₂ (λ (x y : ℕ). (x + 2 ^ (4 * a .w) * y) / 2 ^ (8 * half)) low high in
+    let upper = after-upper .upper .ensures ∙ ap₂ (λ (x y : ℕ). (x + 2 ^ (4 * a .w) * y) / 2 ^ (8 * half)) low high in
     ap (take (a .w)) (patched-rest half (second .last .0) (first .last .0))
-    ∙ ap₂ (λ (p q : List ℕ). take (a .w) (take half p ++ q)) (first .ensures ∙ word) (second .ensures ∙ ap (λ (x : ℕ). digits 8 8 x ++ rest) upper)
-    ∙ two-words-packed (a .w) src (drop 8 (now (a .dst))) rest (omega arith) (c .before .before .before .before .before .before .before .before .before .before .before .before .before .before .before .pre .1)
+    ∙ ap₂ (λ (p q : List ℕ). take (a .w) (take half p ++ q)) (first .ensures ∙ word)
+    (second .ensures ∙ ap (λ (x : ℕ). digits 8 8 x ++ rest) upper)
+    ∙ two-words-packed (a .w) src (drop 8 (now (a .dst))) rest (omega arith) (start .pre .1)
 
 pub pack-eight-spec : {M : Type 1} → statement M
 pack-eight-spec =

@@ -17,10 +17,15 @@ use Rattle.packing.proofs.pack_eights.Tie as tie
 
 abbrev Inv-loop : tie.InvT-loop
 Inv-loop w src dst₀ turns₀ dst turns =
-    (8 * turns ≤ length src) × (w * turns ≤ length dst₀) × (length dst ≡ length dst₀) × (take (w * turns) dst ≡ pack w (lowBits w (take (8 * turns) src)))
+    (8 * turns ≤ length src) × (w * turns ≤ length dst₀) × (length dst ≡ length dst₀) ×
+    (take (w * turns) dst ≡ pack w (lowBits w (take (8 * turns) src)))
 
 abbrev μ-loop : tie.MeasureT-loop
 μ-loop w src dst₀ turns₀ dst turns = length src - 8 * turns
+
+-- The places of the code that the answers name.
+abbrev Turn : Type 0
+Turn = tie.At-loop Inv-loop μ-loop
 
 loop-holds : tie.Need-loop-holds Inv-loop μ-loop
 unfolding pack lowBits value digits
@@ -48,10 +53,12 @@ add-if1 : tie.Need-add-if1 Inv-loop μ-loop
 add-if1 c = omega arith
 
 same-length : tie.Need-same-length Inv-loop μ-loop
-same-length c = c .before .before .loop .inv .2
+same-length c = let turn : Turn = search in turn .loop .inv .2
 
 returns : tie.Need-returns Inv-loop μ-loop
-returns c = (c .before .before .loop .inv .0, c .before .before .loop .inv .1, c .before .before .loop .inv .3)
+returns c =
+    let turn : Turn = search in
+    (turn .loop .inv .0, turn .loop .inv .1, turn .loop .inv .3)
 
 add-pack-eight : tie.Need-add-pack-eight Inv-loop μ-loop
 add-pack-eight c = omega arith
@@ -88,12 +95,15 @@ loop-less c = omega arith
 
 loop-again : tie.Need-loop-again Inv-loop μ-loop
 loop-again c =
-    let h = c .before .before .before .before .before .before .before .loop in
-    let a = c .before .before .before .before .before .before .before .before .before .before .args in
+    let start : tie.Start Inv-loop μ-loop = search in
+    let turn : Turn = search in
+    let after-pack-eight : tie.After-pack-eight Inv-loop μ-loop = search in
+    let h = turn .loop in
+    let a = start .args in
     let src = now (a .src) in
     let t = h .turns in
     let k = a .w * t in
-    let part = c .before .before .pack-eight in
+    let part = after-pack-eight .pack-eight in
     let ys = part .last .1 .1 .0 in
     let next : 8 * t + 8 ≡ 8 * (t + 1) = omega arith in
     let place : a .w * (8 * t) ≡ 8 * k = omega arith in
@@ -110,10 +120,12 @@ loop-again c =
     rw (patched-rest k ys (h .dst)) (omega arith, omega arith, simp (length-append, length-take) (omega arith), written)
 
 same-length-2 : tie.Need-same-length-2 Inv-loop μ-loop
-same-length-2 c = c .before .loop .inv .2
+same-length-2 c = let turn : Turn = search in turn .loop .inv .2
 
 returns-2 : tie.Need-returns-2 Inv-loop μ-loop
-returns-2 c = (c .before .loop .inv .0, c .before .loop .inv .1, c .before .loop .inv .3)
+returns-2 c =
+    let turn : Turn = search in
+    (turn .loop .inv .0, turn .loop .inv .1, turn .loop .inv .3)
 
 pub pack-eights-spec : {M : Type 1} → statement M
 pack-eights-spec =

@@ -23,6 +23,13 @@ Inv-loop dst₀ v left₀ i₀ dst left i =
 abbrev μ-loop : tie.MeasureT-loop
 μ-loop dst₀ v left₀ i₀ dst left i = length dst₀ - i
 
+-- The places of the code that the answers name.
+abbrev Start : Type 0
+Start = tie.Start Inv-loop μ-loop
+
+abbrev Turn : Type 0
+Turn = tie.At-loop Inv-loop μ-loop
+
 cast-dst : tie.Need-cast-dst Inv-loop μ-loop
 cast-dst c = search needs
 
@@ -53,8 +60,9 @@ same-length c = simp length-set
 returns : tie.Need-returns Inv-loop μ-loop
 unfolding digits
 returns c =
-    let v = c .before .args .v in
-    let dst = now (c .before .args .dst) in
+    let start : Start = search in
+    let v = start .args .v in
+    let dst = now (start .args .dst) in
     let bytes : List ℕ = v % 256 ∷ v / 256 % 256 ∷ v / 65536 % 256 ∷ v / 16777216 % 256 ∷ [] in
     let four : min 4 (length dst) ≡ 4 = min-eq-left (omega arith) in
     ap (take 4) (sets-eq bytes dst 0 (omega arith)) ∙ rw four (simp div-div-eq-div-mul)
@@ -76,9 +84,11 @@ loop-less c = omega arith
 
 loop-again : tie.Need-loop-again Inv-loop μ-loop
 loop-again c =
-    let h = c .before .loop in
-    let v = c .before .before .before .args .v in
-    let dst = now (c .before .before .before .args .dst) in
+    let start : Start = search in
+    let turn : Turn = search in
+    let h = turn .loop in
+    let v = start .args .v in
+    let dst = now (start .args .dst) in
     let next : 8 * h .i + 8 ≡ 8 * (h .i + 1) = omega arith in (
       omega arith,
       simp length-set (h .inv .1),
@@ -87,13 +97,15 @@ loop-again c =
     )
 
 same-length-2 : tie.Need-same-length-2 Inv-loop μ-loop
-same-length-2 c = c .before .loop .inv .1
+same-length-2 c = let turn : Turn = search in turn .loop .inv .1
 
 returns-2 : tie.Need-returns-2 Inv-loop μ-loop
 returns-2 c =
-    let h = c .before .loop in
-    let v = c .before .before .before .args .v in
-    let dst = now (c .before .before .before .args .dst) in
+    let start : Start = search in
+    let turn : Turn = search in
+    let h = turn .loop in
+    let v = start .args .v in
+    let dst = now (start .args .dst) in
     let all : h .dst ≡ _ = filled-all (h .i) (length dst) (λ j. v / 2 ^ (8 * j) % 2 ^ 8) dst refl (omega arith) (omega arith) (h .inv .3) in
     let less : min 4 (length dst) ≡ length dst = min-eq-right (omega arith) in
     take-all 4 (h .dst) (omega arith) ∙ all ∙ rw less (sym (digits-tabulate 8 (length dst) v))

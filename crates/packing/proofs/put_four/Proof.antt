@@ -47,8 +47,9 @@ same-length c = search needs
 returns : tie.Need-returns
 unfolding digits
 returns c =
+    let start : tie.Start = search in
     let z = c .spread .result in
-    let a = c .before .before .args in
+    let a = start .args in
     let dst = now (a .dst) in
     let four : List ℕ = z % 65536 ∷ z / 65536 % 65536 ∷ z / 4294967296 % 65536 ∷ z / 281474976710656 % 65536 ∷ [] in
     let is : four ≡ digits 16 4 z = simp div-div-eq-div-mul in

@@ -14,16 +14,21 @@ slice-relend-prefix-store : tie.Need-slice-relend-prefix-store
 slice-relend-prefix-store c = search needs
 
 slice-aggregate-store : tie.Need-slice-aggregate-store
-slice-aggregate-store c = sym (length-take-le 8 (now (c .before .before .args .dst)) (c .before .before .pre))
+slice-aggregate-store c =
+    let start : tie.Start = search in
+    sym (length-take-le 8 (now (start .args .dst)) (start .pre))
 
 store-requires : tie.Need-store-requires
-store-requires c κs = length-take-le 8 (now (c .before .before .args .dst)) (c .before .before .pre)
+store-requires c κs = let start : tie.Start = search in length-take-le 8 (now (start .args .dst)) (start .pre)
 
 same-length : tie.Need-same-length
 same-length c = search needs
 
 returns : tie.Need-returns
-returns c = ap (λ (l : List ℕ). l ++ drop 8 (now (c .before .before .before .before .before .args .dst))) (c .before .before .store .ensures)
+returns c =
+    let start : tie.Start = search in
+    let after-store : tie.After-store = search in
+    ap (λ (l : List ℕ). l ++ drop 8 (now (start .args .dst))) (after-store .store .ensures)
 
 pub put-word-spec : {M : Type 1} → statement M
 put-word-spec =

@@ -32,13 +32,23 @@ mul-result : tie.Need-mul-result
 mul-result c =
     let a = c .args in
     rw (second-moved (a .w) (a .x) (omega arith))
-    (omega (arith, digit-below (a .w) (a .x / 2 ^ 32 / 2 ^ a .w) (omega arith), digit-below (a .w) (a .x % 2 ^ 32 / 2 ^ a .w) (omega arith)))
+    (omega (
+      arith,
+      digit-below (a .w) (a .x / 2 ^ 32 / 2 ^ a .w) (omega arith),
+      digit-below (a .w) (a .x % 2 ^ 32 / 2 ^ a .w) (omega arith),
+    ))
 
 add-result : tie.Need-add-result
 add-result c =
     let a = c .args in
     rw (both-kept (a .w) (a .x) (omega arith), second-moved (a .w) (a .x) (omega arith))
-    (omega (arith, digit-below (a .w) (a .x / 2 ^ 32) (omega arith), digit-below (a .w) (a .x % 2 ^ 32) (omega arith), digit-below (a .w) (a .x / 2 ^ 32 / 2 ^ a .w) (omega arith), digit-below (a .w) (a .x % 2 ^ 32 / 2 ^ a .w) (omega arith)))
+    (omega (
+      arith,
+      digit-below (a .w) (a .x / 2 ^ 32) (omega arith),
+      digit-below (a .w) (a .x % 2 ^ 32) (omega arith),
+      digit-below (a .w) (a .x / 2 ^ 32 / 2 ^ a .w) (omega arith),
+      digit-below (a .w) (a .x % 2 ^ 32 / 2 ^ a .w) (omega arith),
+    ))
 
 returns : tie.Need-returns
 returns c =

@@ -15,8 +15,10 @@ singles-requires c κs = search needs
 
 returns : tie.Need-returns
 returns c =
-    let a = c .before .before .args in
-    c .singles .ensures ∙ spread-is (a .w) (a .x) (omega arith) (c .before .pairs .ensures)
+    let start : tie.Start = search in
+    let after-pairs : tie.After-pairs = search in
+    let a = start .args in
+    c .singles .ensures ∙ spread-is (a .w) (a .x) (omega arith) (after-pairs .pairs .ensures)
 
 pub spread-spec : {M : Type 1} → statement M
 spread-spec = tie.close (tie.spec pairs-requires singles-requires returns)

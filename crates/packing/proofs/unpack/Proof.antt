@@ -47,14 +47,16 @@ part-unpack-each-end-2 c = search needs
 
 unpack-each-requires : tie.Need-unpack-each-requires
 unpack-each-requires c κs =
-    let a = c .before .before .before .before .before .before .before .before .args in
-    let e = c .before .before .before .before .unpack-eights in
+    let start : tie.Start = search in
+    let after-unpack-eights : tie.After-unpack-eights = search in
+    let a = start .args in
+    let e = after-unpack-eights .unpack-eights in
     let t = e .result in
     let dst = now (a .dst) in
     let after = e .last .1 .1 .0 in
     let long : length after ≡ length dst = ap length (e .ensures .2) ∙ simp (length-append, length-unpack, length-drop) (omega arith) in
     let m = length (now (a .src)) in
-    let room : a .w * (length dst - 8 * t) ≤ 8 * (m - a .w * t) = rest-fits (a .w) (length dst) t m (e .ensures .0) (c .before .before .before .before .before .before .before .before .pre .1) in
+    let room : a .w * (length dst - 8 * t) ≤ 8 * (m - a .w * t) = rest-fits (a .w) (length dst) t m (e .ensures .0) (start .pre .1) in
     (omega arith, rw (take-rest (8 * t) after, take-rest (a .w * t) (now (a .src)), length-drop, length-drop, long) room)
 
 same-length : tie.Need-same-length
@@ -62,15 +64,19 @@ same-length c = search needs
 
 returns : tie.Need-returns
 returns c =
-    let a = c .before .before .before .before .before .before .before .before .before .before .before .args in
-    let e = c .before .before .before .before .before .before .before .unpack-eights in
+    let start : tie.Start = search in
+    let after-shared-slice-known : tie.After-shared-slice-known = search in
+    let after-unpack-eights : tie.After-unpack-eights = search in
+    let after-unpack-each : tie.After-unpack-each = search in
+    let a = start .args in
+    let e = after-unpack-eights .unpack-eights in
     let t = e .result in
     let dst = now (a .dst) in
     let after = e .last .1 .1 .0 in
     let long : length after ≡ length dst = ap length (e .ensures .2) ∙ simp (length-append, length-unpack, length-drop) (omega arith) in
     let src = now (a .src) in
-    let bytes : Below 256 src = λ i. c .before .before .before .before .before .before .before .before .before .before .shared-slice-known .given i .fits in
-    let rest = c .before .before .unpack-each in
+    let bytes : Below 256 src = λ i. after-shared-slice-known .shared-slice-known .given i .fits in
+    let rest = after-unpack-each .unpack-each in
     let n = length dst - 8 * t in
     let place : a .w * (8 * t) ≡ 8 * (a .w * t) = omega arith in
     let parts : 8 * t + n ≡ length dst = omega (arith, e .ensures .0) in

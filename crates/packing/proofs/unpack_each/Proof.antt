@@ -15,19 +15,28 @@ use Rattle.packing.proofs.unpack_each.Tie as tie
 
 abbrev Inv-loop : tie.InvT-loop
 Inv-loop w src dst₀ k₀ shift₀ i₀ dst k shift i =
-    (i ≤ length dst₀) × (length dst ≡ length dst₀) × (shift < 8) × (8 * k + shift ≡ w * i) × (dst ≡ filled i (λ i. value 8 src / 2 ^ (w * i) % 2 ^ w) dst₀)
+    (i ≤ length dst₀) × (length dst ≡ length dst₀) × (shift < 8) × (8 * k + shift ≡ w * i) ×
+    (dst ≡ filled i (λ i. value 8 src / 2 ^ (w * i) % 2 ^ w) dst₀)
 
 abbrev μ-loop : tie.MeasureT-loop
 μ-loop w src dst₀ k₀ shift₀ i₀ dst k shift i = length dst₀ - i
+
+-- The places of the code that the answers name.
+abbrev Start : Type 0
+Start = tie.Start Inv-loop μ-loop
+
+abbrev Turn : Type 0
+Turn = tie.At-loop Inv-loop μ-loop
 
 loop-holds : tie.Need-loop-holds Inv-loop μ-loop
 loop-holds c = (omega arith, refl, omega arith, omega arith, filled-none _ _)
 
 field-requires : tie.Need-field-requires Inv-loop μ-loop
 field-requires c κs =
-    let h = c .before .loop in
-    let a = c .before .before .before .before .args in
-    (omega arith, omega arith, place-inside (a .w) (h .i) _ (h .k) (h .shift) _ (h .inv .0) (c .before .before .before .before .pre .1) (h .inv .3))
+    let start : Start = search in
+    let turn : Turn = search in
+    let h = turn .loop in
+    (omega arith, omega arith, place-inside (start .args .w) (h .i) _ (h .k) (h .shift) _ (h .inv .0) (start .pre .1) (h .inv .3))
 
 mul-dst : tie.Need-mul-dst Inv-loop μ-loop
 mul-dst c = omega arith
@@ -43,9 +52,11 @@ cast-k c = omega arith
 
 add-k-2 : tie.Need-add-k-2 Inv-loop μ-loop
 add-k-2 c =
-    let h = c .before .before .loop in
-    let a = c .before .before .before .before .before .args in
-    let inside : h .k ≤ length (now (a .src)) = place-inside (a .w) (h .i) _ (h .k) (h .shift) _ (h .inv .0) (c .before .before .before .before .before .pre .1) (h .inv .3) in
+    let start : Start = search in
+    let turn : Turn = search in
+    let h = turn .loop in
+    let a = start .args in
+    let inside : h .k ≤ length (now (a .src)) = place-inside (a .w) (h .i) _ (h .k) (h .shift) _ (h .inv .0) (start .pre .1) (h .inv .3) in
     omega arith
 
 add-shift : tie.Need-add-shift Inv-loop μ-loop
@@ -59,8 +70,10 @@ loop-less c = omega arith
 
 loop-again : tie.Need-loop-again Inv-loop μ-loop
 loop-again c =
-    let h = c .before .before .loop in
-    let a = c .before .before .before .before .before .args in
+    let start : Start = search in
+    let turn : Turn = search in
+    let h = turn .loop in
+    let a = start .args in
     let v = value 8 (now (a .src)) in (
       omega arith,
       simp length-set (h .inv .1),
@@ -71,15 +84,18 @@ loop-again c =
     )
 
 same-length : tie.Need-same-length Inv-loop μ-loop
-same-length c = c .before .loop .inv .1
+same-length c = let turn : Turn = search in turn .loop .inv .1
 
 returns : tie.Need-returns Inv-loop μ-loop
 unfolding unpack
 returns c =
-    let h = c .before .loop in
-    let a = c .before .before .before .before .args in
+    let start : Start = search in
+    let turn : Turn = search in
+    let h = turn .loop in
+    let a = start .args in
     let v = value 8 (now (a .src)) in
-    filled-all (h .i) (length (now (a .dst))) (λ i. v / 2 ^ (a .w * i) % 2 ^ a .w) (now (a .dst)) refl (omega arith) (omega arith) (h .inv .4)
+    filled-all (h .i) (length (now (a .dst))) (λ i. v / 2 ^ (a .w * i) % 2 ^ a .w) (now (a .dst)) refl (omega arith) (omega arith)
+    (h .inv .4)
     ∙ sym (digits-tabulate (a .w) (length (now (a .dst))) v)
 
 pub unpack-each-spec : {M : Type 1} → statement M

@@ -69,15 +69,22 @@ same-length c = search needs
 returns : tie.Need-returns
 unfolding unpack
 returns c =
-    let a = c .before .before .before .before .before .before .before .before .before .before .before .before .before .args in
+    let start : tie.Start = search in
+    let after-shared-slice-known : tie.After-shared-slice-known = search in
+    let after-word : tie.After-word = search in
+    let after-put-four : tie.After-put-four = search in
+    let after-word2 : tie.After-word2 = search in
+    let after-put-four2 : tie.After-put-four2 = search in
+    let a = start .args in
     let src = now (a .src) in
-    let bytes : Below 256 src = λ i. c .before .before .before .before .before .before .before .before .before .before .before .before .shared-slice-known .given i .fits in
-    let first = c .before .before .before .before .before .before .before .before .put-four in
-    let second = c .before .before .put-four2 in
+    let bytes : Below 256 src = λ i. after-shared-slice-known .shared-slice-known .given i .fits in
+    let first = after-put-four .put-four in
+    let second = after-put-four2 .put-four2 in
     let xs = first .last .0 in
-    let low : xs ≡ digits (a .w) 4 _ = first .ensures ∙ ap (digits (a .w) 4) (c .before .before .before .before .before .before .before .before .before .word .ensures) in
+    let low : xs ≡ digits (a .w) 4 _ = first .ensures ∙ ap (digits (a .w) 4) (after-word .word .ensures) in
     let high : second .last .0 ≡ digits (a .w) 4 _ =
-    second .ensures ∙ ap (λ (x : ℕ). digits (a .w) 4 (x / 2 ^ (4 * (a .w % 2)))) (c .before .before .before .word2 .ensures ∙ ap (λ (l : List ℕ). value 8 l % 2 ^ 64) (take-rest (a .w / 2) src))
+    second .ensures ∙ ap (λ (x : ℕ). digits (a .w) 4 (x / 2 ^ (4 * (a .w % 2))))
+    (after-word2 .word2 .ensures ∙ ap (λ (l : List ℕ). value 8 l % 2 ^ 64) (take-rest (a .w / 2) src))
     in
     let four : length xs ≡ 4 = ap length (first .ensures) ∙ length-digits (a .w) 4 _ in
     patched-rest 4 (second .last .0) (xs ++ drop 4 (now (a .dst)))

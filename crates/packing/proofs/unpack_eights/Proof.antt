@@ -16,10 +16,15 @@ use Rattle.packing.proofs.unpack_eights.Tie as tie
 
 abbrev Inv-loop : tie.InvT-loop
 Inv-loop w src dst₀ turns₀ dst turns =
-    (8 * turns ≤ length dst₀) × (w * turns ≤ length src) × (length dst ≡ length dst₀) × (dst ≡ unpack w (8 * turns) src ++ drop (8 * turns) dst₀)
+    (8 * turns ≤ length dst₀) × (w * turns ≤ length src) × (length dst ≡ length dst₀) ×
+    (dst ≡ unpack w (8 * turns) src ++ drop (8 * turns) dst₀)
 
 abbrev μ-loop : tie.MeasureT-loop
 μ-loop w src dst₀ turns₀ dst turns = length dst₀ - 8 * turns
+
+-- The places of the code that the answers name.
+abbrev Turn : Type 0
+Turn = tie.At-loop Inv-loop μ-loop
 
 loop-holds : tie.Need-loop-holds Inv-loop μ-loop
 unfolding unpack digits
@@ -47,10 +52,12 @@ add-if1 : tie.Need-add-if1 Inv-loop μ-loop
 add-if1 c = omega arith
 
 same-length : tie.Need-same-length Inv-loop μ-loop
-same-length c = c .before .before .loop .inv .2
+same-length c = let turn : Turn = search in turn .loop .inv .2
 
 returns : tie.Need-returns Inv-loop μ-loop
-returns c = (c .before .before .loop .inv .0, c .before .before .loop .inv .1, c .before .before .loop .inv .3)
+returns c =
+    let turn : Turn = search in
+    (turn .loop .inv .0, turn .loop .inv .1, turn .loop .inv .3)
 
 sub-unpack-eight : tie.Need-sub-unpack-eight Inv-loop μ-loop
 sub-unpack-eight c = omega arith
@@ -87,30 +94,38 @@ loop-less c = omega arith
 
 loop-again : tie.Need-loop-again Inv-loop μ-loop
 loop-again c =
-    let h = c .before .before .before .before .before .before .before .loop in
-    let a = c .before .before .before .before .before .before .before .before .before .before .args in
+    let start : tie.Start Inv-loop μ-loop = search in
+    let after-shared-slice-known : tie.After-shared-slice-known Inv-loop μ-loop = search in
+    let turn : Turn = search in
+    let after-unpack-eight : tie.After-unpack-eight Inv-loop μ-loop = search in
+    let h = turn .loop in
+    let a = start .args in
     let src = now (a .src) in
-    let bytes : Below 256 src = λ i. c .before .before .before .before .before .before .before .before .before .shared-slice-known .given i .fits in
+    let bytes : Below 256 src = λ i. after-shared-slice-known .shared-slice-known .given i .fits in
     let t = h .turns in
-    let part = c .before .before .unpack-eight in
+    let part = after-unpack-eight .unpack-eight in
     let next : 8 * t + 8 ≡ 8 * (t + 1) = omega arith in
     let place : a .w * (8 * t) ≡ 8 * (a .w * t) = omega arith in
-    let eight : part .last .1 .1 .0 ≡ unpack (a .w) 8 (drop (a .w * t) src) = part .ensures ∙ ap (unpack (a .w) 8) (take-rest (a .w * t) src) in
+    let eight : part .last .1 .1 .0 ≡ unpack (a .w) 8 (drop (a .w * t) src) = part .ensures ∙
+    ap (unpack (a .w) 8) (take-rest (a .w * t) src) in
     let ready : unpack (a .w) (8 * t) src ++ part .last .1 .1 .0 ≡ unpack (a .w) (8 * (t + 1)) src =
     ap (λ (l : List ℕ). unpack (a .w) (8 * t) src ++ l) eight ∙ sym (unpack-add (a .w) (8 * t) 8 (a .w * t) src bytes place)
     ∙ ap (λ (n : ℕ). unpack (a .w) n src) next
     in
-    let written : patched (8 * t) (8 * t + 8 - 8 * t) (part .last .1 .1 .0) (h .dst) ≡ unpack (a .w) (8 * (t + 1)) src ++ drop (8 * (t + 1)) (now (a .dst)) =
+    let written : patched (8 * t) (8 * t + 8 - 8 * t) (part .last .1 .1 .0) (h .dst) ≡ unpack (a .w) (8 * (t + 1)) src ++
+    drop (8 * (t + 1)) (now (a .dst)) =
     front-more (8 * t) 8 (unpack (a .w) (8 * t) src) (part .last .1 .1 .0) (now (a .dst)) (length-unpack (a .w) (8 * t) src) (h .inv .3)
     ∙ ap₂ (λ (l : List ℕ) (n : ℕ). l ++ drop n (now (a .dst))) ready next
     in
     (omega arith, omega arith, ap length written ∙ simp (length-append, length-unpack, length-drop) (omega arith), written)
 
 same-length-2 : tie.Need-same-length-2 Inv-loop μ-loop
-same-length-2 c = c .before .loop .inv .2
+same-length-2 c = let turn : Turn = search in turn .loop .inv .2
 
 returns-2 : tie.Need-returns-2 Inv-loop μ-loop
-returns-2 c = (c .before .loop .inv .0, c .before .loop .inv .1, c .before .loop .inv .3)
+returns-2 c =
+    let turn : Turn = search in
+    (turn .loop .inv .0, turn .loop .inv .1, turn .loop .inv .3)
 
 pub unpack-eights-spec : {M : Type 1} → statement M
 unpack-eights-spec =

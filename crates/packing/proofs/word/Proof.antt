@@ -53,9 +53,12 @@ add-result c = search needs
 
 returns : tie.Need-returns
 returns c =
-    let s = now (c .before .before .before .before .before .before .before .before .before .before .before .args .s) in
-    let bytes : Below 256 s = λ i. c .before .before .before .before .before .before .before .before .before .before .shared-slice-known .given i .fits in
-    ap₂ (λ (a b : ℕ). a + 4294967296 * b) (c .before .before .before .before .before .join .ensures) (c .join2 .ensures) ∙ eight-bytes s bytes
+    let start : tie.Start = search in
+    let after-shared-slice-known : tie.After-shared-slice-known = search in
+    let after-join : tie.After-join = search in
+    let s = now (start .args .s) in
+    let bytes : Below 256 s = λ i. after-shared-slice-known .shared-slice-known .given i .fits in
+    ap₂ (λ (a b : ℕ). a + 4294967296 * b) (after-join .join .ensures) (c .join2 .ensures) ∙ eight-bytes s bytes
 
 pub word-spec : {M : Type 1} → statement M
 word-spec =

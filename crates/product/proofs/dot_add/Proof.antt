@@ -20,27 +20,38 @@ Inv-loop acc₀ f s m n at₀ i₀ acc at i = (i ≤ m) × (at ≡ i * length ac
 abbrev μ-loop : tie.MeasureT-loop
 μ-loop acc₀ f s m n at₀ i₀ acc at i = m - i
 
+-- The places of the code that the answers name.
+abbrev Start : Type 0
+Start = tie.Start Inv-loop μ-loop
+
+abbrev Turn : Type 0
+Turn = tie.At-loop Inv-loop μ-loop
+
 loop-holds : tie.Need-loop-holds Inv-loop μ-loop
 loop-holds c =
-    let a = c .before .before .before .args in
-    let words : Below 65536 (now (a .acc)) = λ i. c .before .before .slice-known .given i .fits in
+    let start : Start = search in
+    let after-slice-known : tie.After-slice-known Inv-loop μ-loop = search in
+    let a = start .args in
+    let words : Below 65536 (now (a .acc)) = λ i. after-slice-known .slice-known .given i .fits in
     (omega arith, sym (zero-mul _), refl, dot-none (now (a .acc)) (now (a .f)) (now (a .s)) words)
 
 add-multiply : tie.Need-add-multiply Inv-loop μ-loop
 add-multiply c =
-    let a = c .before .before .before .before .before .before .args in
+    let start : Start = search in
+    let turn : Turn = search in
+    let a = start .args in
     let n : ℕ = length (now (a .acc)) in
-    let h = c .before .before .loop in
-    let fits : h .i * n + n ≤ a .m * n = row-fits n (omega arith) in
+    let fits : turn .loop .i * n + n ≤ a .m * n = row-fits n (omega arith) in
     let few : a .m * n ≤ 4096 = rows-few (omega arith) (omega arith) in
     omega arith
 
 mul-multiply : tie.Need-mul-multiply Inv-loop μ-loop
 mul-multiply c =
-    let a = c .before .before .before .before .before .before .args in
+    let start : Start = search in
+    let turn : Turn = search in
+    let a = start .args in
     let n : ℕ = length (now (a .acc)) in
-    let h = c .before .before .loop in
-    let fits : h .i * n + n ≤ a .m * n = row-fits n (omega arith) in
+    let fits : turn .loop .i * n + n ≤ a .m * n = row-fits n (omega arith) in
     let few : a .m * n ≤ 4096 = rows-few (omega arith) (omega arith) in
     omega arith
 
@@ -52,28 +63,31 @@ part-multiply-start c = omega arith
 
 part-multiply-end : tie.Need-part-multiply-end Inv-loop μ-loop
 part-multiply-end c =
-    let a = c .before .before .before .before .before .before .args in
+    let start : Start = search in
+    let turn : Turn = search in
+    let a = start .args in
     let n : ℕ = length (now (a .acc)) in
-    let h = c .before .before .loop in
-    let fits : h .i * n + n ≤ a .m * n = row-fits n (omega arith) in
+    let fits : turn .loop .i * n + n ≤ a .m * n = row-fits n (omega arith) in
     let few : a .m * n ≤ 4096 = rows-few (omega arith) (omega arith) in
     omega arith
 
 add-multiply-2 : tie.Need-add-multiply-2 Inv-loop μ-loop
 add-multiply-2 c =
-    let a = c .before .before .before .before .before .before .before .args in
+    let start : Start = search in
+    let turn : Turn = search in
+    let a = start .args in
     let n : ℕ = length (now (a .acc)) in
-    let h = c .before .before .before .loop in
-    let fits : h .i * n + n ≤ a .m * n = row-fits n (omega arith) in
+    let fits : turn .loop .i * n + n ≤ a .m * n = row-fits n (omega arith) in
     let few : a .m * n ≤ 4096 = rows-few (omega arith) (omega arith) in
     omega arith
 
 mul-multiply-2 : tie.Need-mul-multiply-2 Inv-loop μ-loop
 mul-multiply-2 c =
-    let a = c .before .before .before .before .before .before .before .args in
+    let start : Start = search in
+    let turn : Turn = search in
+    let a = start .args in
     let n : ℕ = length (now (a .acc)) in
-    let h = c .before .before .before .loop in
-    let fits : h .i * n + n ≤ a .m * n = row-fits n (omega arith) in
+    let fits : turn .loop .i * n + n ≤ a .m * n = row-fits n (omega arith) in
     let few : a .m * n ≤ 4096 = rows-few (omega arith) (omega arith) in
     omega arith
 
@@ -85,25 +99,29 @@ part-multiply-start-2 c = omega arith
 
 part-multiply-end-2 : tie.Need-part-multiply-end-2 Inv-loop μ-loop
 part-multiply-end-2 c =
-    let a = c .before .before .before .before .before .before .before .args in
+    let start : Start = search in
+    let turn : Turn = search in
+    let a = start .args in
     let n : ℕ = length (now (a .acc)) in
-    let h = c .before .before .before .loop in
-    let fits : h .i * n + n ≤ a .m * n = row-fits n (omega arith) in
+    let fits : turn .loop .i * n + n ≤ a .m * n = row-fits n (omega arith) in
     let few : a .m * n ≤ 4096 = rows-few (omega arith) (omega arith) in
     omega arith
 
 multiply-requires : tie.Need-multiply-requires Inv-loop μ-loop
 multiply-requires c κs =
-    let a = c .before .before .before .before .before .before .before .before .args in
-    let h = c .before .before .before .before .loop in
-    part-factors (a .m) (h .i) (h .at) (now (a .acc)) (h .acc) (now (a .f)) (now (a .s)) (c .before .before .before .before .before .before .before .before .pre) (omega arith) (h .inv .1) (h .inv .2)
+    let start : Start = search in
+    let turn : Turn = search in
+    let a = start .args in
+    let h = turn .loop in
+    part-factors (a .m) (h .i) (h .at) (now (a .acc)) (h .acc) (now (a .f)) (now (a .s)) (start .pre) (omega arith) (h .inv .1) (h .inv .2)
 
 add-at : tie.Need-add-at Inv-loop μ-loop
 add-at c =
-    let a = c .before .before .before .before .before .before .before .before .before .before .before .args in
+    let start : Start = search in
+    let turn : Turn = search in
+    let a = start .args in
     let n : ℕ = length (now (a .acc)) in
-    let h = c .before .before .before .before .before .before .before .loop in
-    let fits : h .i * n + n ≤ a .m * n = row-fits n (omega arith) in
+    let fits : turn .loop .i * n + n ≤ a .m * n = row-fits n (omega arith) in
     let few : a .m * n ≤ 4096 = rows-few (omega arith) (omega arith) in
     omega arith
 
@@ -115,21 +133,27 @@ loop-less c = turn-less (omega arith)
 
 loop-again : tie.Need-loop-again Inv-loop μ-loop
 loop-again c =
-    let a = c .before .before .before .before .before .before .before .before .before .before .before .args in
-    let h = c .before .before .before .before .before .before .before .loop in (
+    let start : Start = search in
+    let turn : Turn = search in
+    let after-multiply : tie.After-multiply Inv-loop μ-loop = search in
+    let a = start .args in
+    let h = turn .loop in (
       omega arith,
       rw add-one (rw suc-mul (ap (λ (m : ℕ). m + length (now (a .acc))) (h .inv .1))),
-      c .before .before .multiply .kept .0 ∙ h .inv .2,
-      dot-turn (h .i) (h .at) (now (a .acc)) (h .acc) _ (now (a .f)) (now (a .s)) (h .inv .2) (h .inv .1) (h .inv .3) (c .before .before .multiply .ensures),
+      after-multiply .multiply .kept .0 ∙ h .inv .2,
+      dot-turn (h .i) (h .at) (now (a .acc)) (h .acc) _ (now (a .f)) (now (a .s)) (h .inv .2) (h .inv .1) (h .inv .3)
+          (after-multiply .multiply .ensures),
     )
 
 same-length : tie.Need-same-length Inv-loop μ-loop
-same-length c = c .before .loop .inv .2
+same-length c = let turn : Turn = search in turn .loop .inv .2
 
 returns : tie.Need-returns Inv-loop μ-loop
 returns c =
-    let h = c .before .loop in
-    let a = c .before .before .before .before .before .args in
+    let start : Start = search in
+    let turn : Turn = search in
+    let h = turn .loop in
+    let a = start .args in
     let all : h .i ≡ a .m = omega arith in
     h .inv .3 ∙ ap (λ (m : ℕ). withDot m (now (a .acc)) (now (a .f)) (now (a .s))) all
 

@@ -23,49 +23,73 @@ array-borrow-prefix-row c = search needs
 
 slice-aggregate-double : tie.Need-slice-aggregate-double
 slice-aggregate-double c =
-    let a = c .before .before .before .before .before .args in
-    let zeros : length (c .before .zeros .result) ≡ 1024 = search needs in
-    let short : length (now (a .acc)) ≤ 512 = c .before .before .before .before .before .pre .short in
-    sym (length-take-le (2 * length (now (a .acc))) (c .before .zeros .result) (omega arith))
+    let start : tie.Start = search in
+    let after-zeros : tie.After-zeros = search in
+    let a = start .args in
+    let zeros : length (after-zeros .zeros .result) ≡ 1024 = search needs in
+    let short : length (now (a .acc)) ≤ 512 = start .pre .short in
+    sym (length-take-le (2 * length (now (a .acc))) (after-zeros .zeros .result) (omega arith))
 
 double-requires : tie.Need-double-requires
 double-requires c κs =
-    let a = c .before .before .before .before .before .args in
-    let zeros : length (c .before .zeros .result) ≡ 1024 = search needs in
-    let short : length (now (a .acc)) ≤ 512 = c .before .before .before .before .before .pre .short in
-    length-take-le (2 * length (now (a .acc))) (c .before .zeros .result) (omega arith) ∙ ap (λ (n : ℕ). 2 * n) (sym (c .before .before .before .before .before .pre .second))
+    let start : tie.Start = search in
+    let after-zeros : tie.After-zeros = search in
+    let a = start .args in
+    let zeros : length (after-zeros .zeros .result) ≡ 1024 = search needs in
+    let short : length (now (a .acc)) ≤ 512 = start .pre .short in
+    length-take-le (2 * length (now (a .acc))) (after-zeros .zeros .result) (omega arith) ∙ ap (λ (n : ℕ). 2 * n) (sym (start .pre .second))
 
 array-share-prefix-row : tie.Need-array-share-prefix-row
 array-share-prefix-row c =
-    let a = c .before .before .before .before .before .before .before .before .args in
-    let zeros : length (c .before .before .before .before .zeros .result) ≡ 1024 = search needs in
-    let short : length (now (a .acc)) ≤ 512 = c .before .before .before .before .before .before .before .before .pre .short in
-    let room : length (c .before .before .double .last .1 .0 ++ drop (2 * length (now (a .acc))) (c .before .before .before .before .zeros .result)) ≡ 1024 = length-front (c .before .before .before .before .zeros .result) (c .before .before .double .last .1 .0) (2 * length (now (a .acc))) (c .before .before .double .kept .1 .0) ∙ zeros in
+    let start : tie.Start = search in
+    let after-zeros : tie.After-zeros = search in
+    let after-double : tie.After-double = search in
+    let a = start .args in
+    let zeros : length (after-zeros .zeros .result) ≡ 1024 = search needs in
+    let short : length (now (a .acc)) ≤ 512 = start .pre .short in
+    let room : length (after-double .double .last .1 .0 ++ drop (2 * length (now (a .acc))) (after-zeros .zeros .result)) ≡
+    1024 = length-front (after-zeros .zeros .result) (after-double .double .last .1 .0) (2 * length (now (a .acc)))
+    (after-double .double .kept .1 .0) ∙ zeros in
     omega arith
 
 slice-aggregate-toeplitz : tie.Need-slice-aggregate-toeplitz
 slice-aggregate-toeplitz c =
-    let a = c .before .before .before .before .before .before .before .before .before .args in
-    let zeros : length (c .before .before .before .before .before .zeros .result) ≡ 1024 = search needs in
-    let short : length (now (a .acc)) ≤ 512 = c .before .before .before .before .before .before .before .before .before .pre .short in
-    let room : length (c .before .before .before .double .last .1 .0 ++ drop (2 * length (now (a .acc))) (c .before .before .before .before .before .zeros .result)) ≡ 1024 = length-front (c .before .before .before .before .before .zeros .result) (c .before .before .before .double .last .1 .0) (2 * length (now (a .acc))) (c .before .before .before .double .kept .1 .0) ∙ zeros in
+    let start : tie.Start = search in
+    let after-zeros : tie.After-zeros = search in
+    let after-double : tie.After-double = search in
+    let a = start .args in
+    let zeros : length (after-zeros .zeros .result) ≡ 1024 = search needs in
+    let short : length (now (a .acc)) ≤ 512 = start .pre .short in
+    let room : length (after-double .double .last .1 .0 ++ drop (2 * length (now (a .acc))) (after-zeros .zeros .result)) ≡
+    1024 = length-front (after-zeros .zeros .result) (after-double .double .last .1 .0) (2 * length (now (a .acc)))
+    (after-double .double .kept .1 .0) ∙ zeros in
     sym (length-take-le (2 * length (now (a .acc))) _ (omega arith))
 
 toeplitz-requires : tie.Need-toeplitz-requires
 toeplitz-requires c κs =
-    let a = c .before .before .before .before .before .before .before .before .before .args in
-    let zeros : length (c .before .before .before .before .before .zeros .result) ≡ 1024 = search needs in
-    let short : length (now (a .acc)) ≤ 512 = c .before .before .before .before .before .before .before .before .before .pre .short in
-    let room : length (c .before .before .before .double .last .1 .0 ++ drop (2 * length (now (a .acc))) (c .before .before .before .before .before .zeros .result)) ≡ 1024 = length-front (c .before .before .before .before .before .zeros .result) (c .before .before .before .double .last .1 .0) (2 * length (now (a .acc))) (c .before .before .before .double .kept .1 .0) ∙ zeros in
-    record { sum-long = refl; row-long = length-take-le (2 * length (now (a .acc))) _ (omega arith); vector-long = c .before .before .before .before .before .before .before .before .before .pre .first }
+    let start : tie.Start = search in
+    let after-zeros : tie.After-zeros = search in
+    let after-double : tie.After-double = search in
+    let a = start .args in
+    let zeros : length (after-zeros .zeros .result) ≡ 1024 = search needs in
+    let short : length (now (a .acc)) ≤ 512 = start .pre .short in
+    let room : length (after-double .double .last .1 .0 ++ drop (2 * length (now (a .acc))) (after-zeros .zeros .result)) ≡
+    1024 = length-front (after-zeros .zeros .result) (after-double .double .last .1 .0) (2 * length (now (a .acc)))
+    (after-double .double .kept .1 .0) ∙ zeros in
+    record { sum-long = refl; row-long = length-take-le (2 * length (now (a .acc))) _ (omega arith); vector-long = start .pre .first }
 
 same-length : tie.Need-same-length
 same-length c = search needs
 
 returns : tie.Need-returns
 returns c =
-    let a = c .before .before .before .before .before .before .before .before .before .before .before .before .args in
-    c .before .before .toeplitz .ensures ∙ product-of-row (now (a .acc)) (now (a .a)) (now (a .b)) (c .before .before .before .before .before .before .double .last .1 .0) (drop (2 * length (now (a .acc))) (c .before .before .before .before .before .before .before .before .zeros .result)) (c .before .before .before .before .before .before .before .before .before .before .before .before .pre) (c .before .before .before .before .before .before .double .ensures)
+    let start : tie.Start = search in
+    let after-zeros : tie.After-zeros = search in
+    let after-double : tie.After-double = search in
+    let after-toeplitz : tie.After-toeplitz = search in
+    let a = start .args in
+    after-toeplitz .toeplitz .ensures ∙ product-of-row (now (a .acc)) (now (a .a)) (now (a .b)) (after-double .double .last .1 .0)
+    (drop (2 * length (now (a .acc))) (after-zeros .zeros .result)) (start .pre) (after-double .double .ensures)
 
 pub multiply-spec : {M : Type 1} → statement M
 multiply-spec =

@@ -20,7 +20,10 @@ same-length-3 c = search needs
 
 returns : tie.Need-returns
 returns c =
-    rw (kind-1 (c .before .before .before .before .before .before .before .before .before .before .before .before .before .before .before .args .kind) (c .before .before .before .before .before .before .before .before .before .before .before .before .before .before .before .args .set) (now (c .before .before .before .before .before .before .before .before .before .before .before .before .before .before .before .args .body)) (c .before .before .before .before .before .before .before .before .before .before .if1 .taken)) (c .before .before .before .before .before .before .make-keys .ensures)
+    let start : tie.Start = search in
+    let then1 : tie.Then1 = search in
+    let after-make-keys : tie.After-make-keys = search in
+    rw (kind-1 (start .args .kind) (start .args .set) (now (start .args .body)) (then1 .if1 .taken)) (after-make-keys .make-keys .ensures)
 
 encrypt-message-requires : tie.Need-encrypt-message-requires
 encrypt-message-requires c κs = search needs
@@ -36,7 +39,12 @@ same-length-6 c = search needs
 
 returns-2 : tie.Need-returns-2
 returns-2 c =
-    rw (kind-2 (c .before .before .before .before .before .before .before .before .before .before .before .before .before .before .args .kind) (c .before .before .before .before .before .before .before .before .before .before .before .before .before .before .args .set) (now (c .before .before .before .before .before .before .before .before .before .before .before .before .before .before .args .body)) (c .before .before .before .before .before .before .before .before .before .if1 .left) (c .before .before .before .before .before .before .before .before .if2 .taken)) (c .before .before .before .before .encrypt-message .ensures)
+    let start : tie.Start = search in
+    let else1 : tie.Else1 = search in
+    let then2 : tie.Then2 = search in
+    let after-encrypt-message : tie.After-encrypt-message = search in
+    rw (kind-2 (start .args .kind) (start .args .set) (now (start .args .body)) (else1 .if1 .left) (then2 .if2 .taken))
+    (after-encrypt-message .encrypt-message .ensures)
 
 decrypt-message-requires : tie.Need-decrypt-message-requires
 decrypt-message-requires c κs = search needs
@@ -52,7 +60,13 @@ same-length-9 c = search needs
 
 returns-3 : tie.Need-returns-3
 returns-3 c =
-    rw (kind-3 (c .before .before .before .before .before .before .before .before .before .before .before .before .before .before .before .before .before .args .kind) (c .before .before .before .before .before .before .before .before .before .before .before .before .before .before .before .before .before .args .set) (now (c .before .before .before .before .before .before .before .before .before .before .before .before .before .before .before .before .before .args .body)) (c .before .before .before .before .before .before .before .before .before .before .before .before .if1 .left) (c .before .before .before .before .before .before .before .before .before .before .before .if2 .left) (c .before .before .before .before .before .before .before .before .before .before .if3 .taken)) (c .before .before .before .before .before .before .decrypt-message .ensures)
+    let start : tie.Start = search in
+    let else1 : tie.Else1 = search in
+    let else2 : tie.Else2 = search in
+    let then3 : tie.Then3 = search in
+    let after-decrypt-message : tie.After-decrypt-message = search in
+    rw (kind-3 (start .args .kind) (start .args .set) (now (start .args .body)) (else1 .if1 .left) (else2 .if2 .left) (then3 .if3 .taken))
+    (after-decrypt-message .decrypt-message .ensures)
 
 encapsulate-requires : tie.Need-encapsulate-requires
 encapsulate-requires c κs = search needs
@@ -68,7 +82,26 @@ same-length-12 c = search needs
 
 returns-4 : tie.Need-returns-4
 returns-4 c =
-    rw (kind-4 (c .before .before .before .before .before .before .before .before .before .before .before .before .before .before .before .before .before .before .args .kind) (c .before .before .before .before .before .before .before .before .before .before .before .before .before .before .before .before .before .before .args .set) (now (c .before .before .before .before .before .before .before .before .before .before .before .before .before .before .before .before .before .before .args .body)) (c .before .before .before .before .before .before .before .before .before .before .before .before .before .if1 .left) (c .before .before .before .before .before .before .before .before .before .before .before .before .if2 .left) (c .before .before .before .before .before .before .before .before .before .before .before .if3 .left) (c .before .before .before .before .before .before .before .before .before .before .if4 .taken)) (c .before .before .before .before .before .before .encapsulate .ensures)
+    rw (kind-4 (start .args .kind) (start .args .set) (now (start .args .body)) (else1 .if1 .left) (else2 .if2 .left) (else3 .if3 .left)
+    (then4 .if4 .taken)) (after-encapsulate .encapsulate .ensures)
+  where
+    start : tie.Start
+    start = search
+
+    else1 : tie.Else1
+    else1 = search
+
+    else2 : tie.Else2
+    else2 = search
+
+    else3 : tie.Else3
+    else3 = search
+
+    then4 : tie.Then4
+    then4 = search
+
+    after-encapsulate : tie.After-encapsulate
+    after-encapsulate = search
 
 decapsulate-requires : tie.Need-decapsulate-requires
 decapsulate-requires c κs = search needs
@@ -84,7 +117,14 @@ same-length-15 c = search needs
 
 returns-5 : tie.Need-returns-5
 returns-5 c =
-    rw (kind-5 (c .before .before .before .before .before .before .before .before .before .before .before .before .before .before .before .before .args .kind) (c .before .before .before .before .before .before .before .before .before .before .before .before .before .before .before .before .args .set) (now (c .before .before .before .before .before .before .before .before .before .before .before .before .before .before .before .before .args .body)) (c .before .before .before .before .before .before .before .before .before .before .before .if1 .left) (c .before .before .before .before .before .before .before .before .before .before .if2 .left) (c .before .before .before .before .before .before .before .before .before .if3 .left) (c .before .before .before .before .before .before .before .before .if4 .left)) (c .before .before .before .before .decapsulate .ensures)
+    let start : tie.Start = search in
+    let else1 : tie.Else1 = search in
+    let else2 : tie.Else2 = search in
+    let else3 : tie.Else3 = search in
+    let else4 : tie.Else4 = search in
+    let after-decapsulate : tie.After-decapsulate = search in
+    rw (kind-5 (start .args .kind) (start .args .set) (now (start .args .body)) (else1 .if1 .left) (else2 .if2 .left) (else3 .if3 .left)
+    (else4 .if4 .left)) (after-decapsulate .decapsulate .ensures)
 
 pub answer-spec : {M : Type 1} → statement M
 answer-spec =

@@ -16,25 +16,58 @@ use Rattle.record_calls.proofs.encapsulate.Statement.{statement}
 use Rattle.record_calls.proofs.encapsulate.Tie as tie
 
 -- The checks before the call have passed.
-ok : (c : tie.Else1) → Passed (c .before .before .before .before .before .before .before .before .args .set) (differs (length (now (c .before .before .before .before .before .before .before .before .args .body))) (c .before .before .public-key .result + c .before .before .before .parameters .result .coins))
-ok c = passed _ _ (c .before .refuse .ensures) (c .if1 .left)
+ok : (c : tie.Else1) →
+    let start : tie.Start = search in
+    let after-parameters : tie.After-parameters = search in
+    let after-public-key : tie.After-public-key = search in
+    Passed (start .args .set)
+    (differs (length (now (start .args .body))) (after-public-key .public-key .result + after-parameters .parameters .result .coins))
+ok c =
+    let after-refuse : tie.After-refuse = search in
+    passed _ _ (after-refuse .refuse .ensures) (c .if1 .left)
 
 -- So the body has the length that is cut up.
-long : (c : tie.Else1) → length (now (c .before .before .before .before .before .before .before .before .args .body)) ≡ c .before .before .public-key .result + c .before .before .before .parameters .result .coins
+long : (c : tie.Else1) →
+    let start : tie.Start = search in
+    let after-parameters : tie.After-parameters = search in
+    let after-public-key : tie.After-public-key = search in
+    length (now (start .args .body)) ≡ after-public-key .public-key .result + after-parameters .parameters .result .coins
 long c = length-is (ok c .fits)
 
 -- And every part is within what it is cut from.
 fits : (c : tie.After-encrypt-work) →
-    (c .before .before .before .before .public-key .result ≤ length (now (c .before .before .before .before .before .before .before .before .before .before .args .body))) ×
-    (c .before .before .before .before .before .parameters .result .coins ≤ length (now (c .before .before .before .before .before .before .before .before .before .before .args .first))) ×
-    (c .before .ciphertext .result ≤ length (now (c .before .before .before .before .before .before .before .before .before .before .args .second))) ×
-    (c .encrypt-work .result ≤ length (now (c .before .before .before .before .before .before .before .before .before .before .args .work)))
-fits c = (
-  omega (arith, long (c .before .before)),
-  omega (arith, sized (c .before .before .before .before .before .parameters .result) (c .before .before .before .before .before .parameters .ensures .well) .coins-fit, c .before .before .before .before .before .before .before .before .before .before .pre .first-long),
-  omega (arith, c .before .ciphertext .ensures .0, sized (c .before .before .before .before .before .parameters .result) (c .before .before .before .before .before .parameters .ensures .well) .cipher-fits, c .before .before .before .before .before .before .before .before .before .before .pre .second-long),
-  omega (arith, c .encrypt-work .ensures, sized (c .before .before .before .before .before .parameters .result) (c .before .before .before .before .before .parameters .ensures .well) .encrypt-fits, c .before .before .before .before .before .before .before .before .before .before .pre .work-long),
-)
+    let start : tie.Start = search in
+    let after-parameters : tie.After-parameters = search in
+    let after-public-key : tie.After-public-key = search in
+    let after-ciphertext : tie.After-ciphertext = search in
+    (after-public-key .public-key .result ≤ length (now (start .args .body))) ×
+    (after-parameters .parameters .result .coins ≤ length (now (start .args .first))) ×
+    (after-ciphertext .ciphertext .result ≤ length (now (start .args .second))) ×
+    (c .encrypt-work .result ≤ length (now (start .args .work)))
+fits c =
+    let start : tie.Start = search in
+    let after-parameters : tie.After-parameters = search in
+    let after-ciphertext : tie.After-ciphertext = search in (
+      omega (arith, long (search)),
+      omega (
+        arith,
+        sized (after-parameters .parameters .result) (after-parameters .parameters .ensures .well) .coins-fit,
+        start .pre .first-long,
+      ),
+      omega (
+        arith,
+        after-ciphertext .ciphertext .ensures .0,
+        sized (after-parameters .parameters .result) (after-parameters .parameters .ensures .well) .cipher-fits,
+        start .pre .second-long,
+      ),
+      omega (
+        arith,
+        c .encrypt-work .ensures,
+        sized (after-parameters .parameters .result)
+            (after-parameters .parameters .ensures .well) .encrypt-fits,
+        start .pre .work-long,
+      ),
+    )
 
 parameters-requires : tie.Need-parameters-requires
 parameters-requires c κs = search needs
@@ -53,10 +86,15 @@ outcome-of-requires c κs = search needs
 
 returns : tie.Need-returns
 returns c =
-    let a = c .before .before .before .before .before .before .before .before .before .args in
-    let p = c .before .before .before .before .parameters in
+    let start : tie.Start = search in
+    let after-parameters : tie.After-parameters = search in
+    let after-public-key : tie.After-public-key = search in
+    let after-refuse : tie.After-refuse = search in
+    let then1 : tie.Then1 = search in
+    let a = start .args in
+    let p = after-parameters .parameters in
     encaps-early (a .set) (p .result) (now (a .body)) (now (a .first)) (now (a .second)) (p .ensures .are)
-    (rw (c .before .before .before .public-key .ensures .0) at (c .before .before .refuse .ensures)) (c .before .if1 .taken) (c .outcome-of .ensures)
+    (rw (after-public-key .public-key .ensures .0) at (after-refuse .refuse .ensures)) (then1 .if1 .taken) (c .outcome-of .ensures)
 
 ciphertext-requires : tie.Need-ciphertext-requires
 ciphertext-requires c κs = search needs
@@ -65,13 +103,13 @@ encrypt-work-requires : tie.Need-encrypt-work-requires
 encrypt-work-requires c κs = search needs
 
 slice-aggregate-encaps : tie.Need-slice-aggregate-encaps
-slice-aggregate-encaps c = sym (length-take-le _ _ (fits (c .before) .0))
+slice-aggregate-encaps c = sym (length-take-le _ _ (fits (search) .0))
 
 sub-encaps : tie.Need-sub-encaps
-sub-encaps c = fits (c .before) .0
+sub-encaps c = fits (search) .0
 
 part-encaps-start : tie.Need-part-encaps-start
-part-encaps-start c = fits (c .before) .0
+part-encaps-start c = fits (search) .0
 
 part-encaps-end : tie.Need-part-encaps-end
 part-encaps-end c = search needs
@@ -80,19 +118,19 @@ slice-relend-prefix-encaps : tie.Need-slice-relend-prefix-encaps
 slice-relend-prefix-encaps c = search needs
 
 slice-aggregate-encaps-2 : tie.Need-slice-aggregate-encaps-2
-slice-aggregate-encaps-2 c = sym (length-take-le _ _ (fits (c .before .before .before) .1))
+slice-aggregate-encaps-2 c = sym (length-take-le _ _ (fits (search) .1))
 
 slice-relend-prefix-encaps-2 : tie.Need-slice-relend-prefix-encaps-2
 slice-relend-prefix-encaps-2 c = search needs
 
 slice-aggregate-encaps-3 : tie.Need-slice-aggregate-encaps-3
-slice-aggregate-encaps-3 c = sym (length-take-le _ _ (fits (c .before .before .before .before) .2))
+slice-aggregate-encaps-3 c = sym (length-take-le _ _ (fits (search) .2))
 
 slice-relend-prefix-encaps-3 : tie.Need-slice-relend-prefix-encaps-3
-slice-relend-prefix-encaps-3 c = fits (c .before .before .before .before) .3
+slice-relend-prefix-encaps-3 c = fits (search) .3
 
 slice-aggregate-encaps-4 : tie.Need-slice-aggregate-encaps-4
-slice-aggregate-encaps-4 c = sym (length-take-le _ _ (fits (c .before .before .before .before .before) .3))
+slice-aggregate-encaps-4 c = sym (length-take-le _ _ (fits (search) .3))
 
 encaps-requires : tie.Need-encaps-requires
 encaps-requires c κs = search needs
@@ -111,13 +149,29 @@ same-length-3 c = search needs
 
 returns-2 : tie.Need-returns-2
 returns-2 c =
-    let a = c .before .before .before .before .before .before .before .before .before .before .before .before .before .before .before .before .before .before .before .before .before .before .before .args in
-    let p = c .before .before .before .before .before .before .before .before .before .before .before .before .before .before .before .before .before .before .parameters in
-    let fit = fits (c .before .before .before .before .before .before .before .before .before .before .before .before .before) in
+    let after-public-key : tie.After-public-key = search in
+    let after-encaps : tie.After-encaps = search in
+    let a = start .args in
+    let p = after-parameters .parameters in
+    let fit = fits after-encrypt-work in
     encaps-gives (a .set) (p .result) (now (a .body)) (now (a .first)) (now (a .second)) (p .ensures .are)
     (now (a .work)) (p .ensures .well)
-    (rw (c .before .before .before .before .before .before .before .before .before .before .before .before .before .before .before .before .before .public-key .ensures .0) at (ok (c .before .before .before .before .before .before .before .before .before .before .before .before .before .before .before))) (c .before .before .before .before .before .before .before .before .before .before .before .before .before .before .ciphertext .ensures .0) (c .before .before .before .before .before .before .before .before .before .before .before .before .before .encrypt-work .ensures) (fit .1) (fit .2) (fit .3)
-    (rw (c .before .before .before .before .before .before .before .before .before .before .before .before .before .before .before .before .before .public-key .ensures .0) at (c .before .before .before .before .before .before .before .encaps .ensures)) (c .before .before .before .before .before .before .before .encaps .kept .1 .1 .1 .0) (c .before .before .before .before .before .before .before .encaps .kept .1 .1 .1 .1 .0) (c .outcome-of2 .ensures)
+    (rw (after-public-key .public-key .ensures .0) at (ok (search))) (after-ciphertext .ciphertext .ensures .0)
+    (after-encrypt-work .encrypt-work .ensures) (fit .1) (fit .2) (fit .3)
+    (rw (after-public-key .public-key .ensures .0) at (after-encaps .encaps .ensures)) (after-encaps .encaps .kept .1 .1 .1 .0)
+    (after-encaps .encaps .kept .1 .1 .1 .1 .0) (c .outcome-of2 .ensures)
+  where
+    start : tie.Start
+    start = search
+
+    after-parameters : tie.After-parameters
+    after-parameters = search
+
+    after-ciphertext : tie.After-ciphertext
+    after-ciphertext = search
+
+    after-encrypt-work : tie.After-encrypt-work
+    after-encrypt-work = search
 
 pub encapsulate-spec : {M : Type 1} → statement M
 encapsulate-spec =

@@ -16,25 +16,57 @@ use Rattle.record_calls.proofs.make_keys.Statement.{statement}
 use Rattle.record_calls.proofs.make_keys.Tie as tie
 
 -- The checks before the call have passed.
-ok : (c : tie.Else1) → Passed (c .before .before .before .before .before .before .before .args .set) (differs (length (now (c .before .before .before .before .before .before .before .args .body))) (3 * c .before .before .parameters .result .seed))
-ok c = passed _ _ (c .before .refuse .ensures) (c .if1 .left)
+ok : (c : tie.Else1) →
+    let start : tie.Start = search in
+    let after-parameters : tie.After-parameters = search in
+    Passed (start .args .set) (differs (length (now (start .args .body))) (3 * after-parameters .parameters .result .seed))
+ok c =
+    let after-refuse : tie.After-refuse = search in
+    passed _ _ (after-refuse .refuse .ensures) (c .if1 .left)
 
 -- So the body has the length that is cut up.
-long : (c : tie.Else1) → length (now (c .before .before .before .before .before .before .before .args .body)) ≡ 3 * c .before .before .parameters .result .seed
+long : (c : tie.Else1) →
+    let start : tie.Start = search in
+    let after-parameters : tie.After-parameters = search in
+    length (now (start .args .body)) ≡ 3 * after-parameters .parameters .result .seed
 long c = length-is (ok c .fits)
 
 -- And every part is within what it is cut from.
 fits : (c : tie.After-keygen-work) →
-    (2 * c .before .before .before .before .before .parameters .result .seed ≤ length (now (c .before .before .before .before .before .before .before .before .before .before .args .body))) ×
-    (c .before .before .public-key .result ≤ length (now (c .before .before .before .before .before .before .before .before .before .before .args .first))) ×
-    (c .before .secret-key .result ≤ length (now (c .before .before .before .before .before .before .before .before .before .before .args .second))) ×
-    (c .keygen-work .result ≤ length (now (c .before .before .before .before .before .before .before .before .before .before .args .work)))
-fits c = (
-  omega (arith, long (c .before .before .before)),
-  omega (arith, c .before .before .public-key .ensures .0, sized (c .before .before .before .before .before .parameters .result) (c .before .before .before .before .before .parameters .ensures .well) .public-fits, c .before .before .before .before .before .before .before .before .before .before .pre .first-long),
-  omega (arith, c .before .secret-key .ensures, sized (c .before .before .before .before .before .parameters .result) (c .before .before .before .before .before .parameters .ensures .well) .secret-fits, c .before .before .before .before .before .before .before .before .before .before .pre .second-long),
-  omega (arith, c .keygen-work .ensures .0, sized (c .before .before .before .before .before .parameters .result) (c .before .before .before .before .before .parameters .ensures .well) .keygen-fits, c .before .before .before .before .before .before .before .before .before .before .pre .work-long),
-)
+    let start : tie.Start = search in
+    let after-parameters : tie.After-parameters = search in
+    let after-public-key : tie.After-public-key = search in
+    let after-secret-key : tie.After-secret-key = search in
+    (2 * after-parameters .parameters .result .seed ≤ length (now (start .args .body))) ×
+    (after-public-key .public-key .result ≤ length (now (start .args .first))) ×
+    (after-secret-key .secret-key .result ≤ length (now (start .args .second))) ×
+    (c .keygen-work .result ≤ length (now (start .args .work)))
+fits c =
+    let start : tie.Start = search in
+    let after-parameters : tie.After-parameters = search in
+    let after-public-key : tie.After-public-key = search in
+    let after-secret-key : tie.After-secret-key = search in (
+      omega (arith, long (search)),
+      omega (
+        arith,
+        after-public-key .public-key .ensures .0,
+        sized (after-parameters .parameters .result) (after-parameters .parameters .ensures .well) .public-fits,
+        start .pre .first-long,
+      ),
+      omega (
+        arith,
+        after-secret-key .secret-key .ensures,
+        sized (after-parameters .parameters .result) (after-parameters .parameters .ensures .well) .secret-fits,
+        start .pre .second-long,
+      ),
+      omega (
+        arith,
+        c .keygen-work .ensures .0,
+        sized (after-parameters .parameters .result)
+            (after-parameters .parameters .ensures .well) .keygen-fits,
+        start .pre .work-long,
+      ),
+    )
 
 parameters-requires : tie.Need-parameters-requires
 parameters-requires c κs = search needs
@@ -50,10 +82,14 @@ outcome-of-requires c κs = search needs
 
 returns : tie.Need-returns
 returns c =
-    let a = c .before .before .before .before .before .before .before .before .args in
-    let p = c .before .before .before .parameters in
+    let start : tie.Start = search in
+    let after-parameters : tie.After-parameters = search in
+    let after-refuse : tie.After-refuse = search in
+    let then1 : tie.Then1 = search in
+    let a = start .args in
+    let p = after-parameters .parameters in
     keygen-early (a .set) (p .result) (now (a .body)) (now (a .first)) (now (a .second)) (p .ensures .are)
-    (c .before .before .refuse .ensures) (c .before .if1 .taken) (c .outcome-of .ensures)
+    (after-refuse .refuse .ensures) (then1 .if1 .taken) (c .outcome-of .ensures)
 
 mul-twice : tie.Need-mul-twice
 mul-twice c = search needs
@@ -68,7 +104,7 @@ keygen-work-requires : tie.Need-keygen-work-requires
 keygen-work-requires c κs = search needs
 
 slice-aggregate-keygen : tie.Need-slice-aggregate-keygen
-slice-aggregate-keygen c = sym (length-take-le _ _ (omega (arith, fits (c .before) .0)))
+slice-aggregate-keygen c = sym (length-take-le _ _ (omega (arith, fits (search) .0)))
 
 sub-keygen : tie.Need-sub-keygen
 sub-keygen c = search needs
@@ -77,34 +113,34 @@ part-keygen-start : tie.Need-part-keygen-start
 part-keygen-start c = search needs
 
 part-keygen-end : tie.Need-part-keygen-end
-part-keygen-end c = fits (c .before) .0
+part-keygen-end c = fits (search) .0
 
 sub-keygen-2 : tie.Need-sub-keygen-2
-sub-keygen-2 c = fits (c .before .before) .0
+sub-keygen-2 c = fits (search) .0
 
 part-keygen-start-2 : tie.Need-part-keygen-start-2
-part-keygen-start-2 c = fits (c .before .before) .0
+part-keygen-start-2 c = fits (search) .0
 
 part-keygen-end-2 : tie.Need-part-keygen-end-2
 part-keygen-end-2 c = search needs
 
 slice-relend-prefix-keygen : tie.Need-slice-relend-prefix-keygen
-slice-relend-prefix-keygen c = fits (c .before .before .before) .1
+slice-relend-prefix-keygen c = fits (search) .1
 
 slice-aggregate-keygen-2 : tie.Need-slice-aggregate-keygen-2
-slice-aggregate-keygen-2 c = sym (length-take-le _ _ (fits (c .before .before .before .before) .1))
+slice-aggregate-keygen-2 c = sym (length-take-le _ _ (fits (search) .1))
 
 slice-relend-prefix-keygen-2 : tie.Need-slice-relend-prefix-keygen-2
-slice-relend-prefix-keygen-2 c = fits (c .before .before .before .before) .2
+slice-relend-prefix-keygen-2 c = fits (search) .2
 
 slice-aggregate-keygen-3 : tie.Need-slice-aggregate-keygen-3
-slice-aggregate-keygen-3 c = sym (length-take-le _ _ (fits (c .before .before .before .before .before) .2))
+slice-aggregate-keygen-3 c = sym (length-take-le _ _ (fits (search) .2))
 
 slice-relend-prefix-keygen-3 : tie.Need-slice-relend-prefix-keygen-3
-slice-relend-prefix-keygen-3 c = fits (c .before .before .before .before .before) .3
+slice-relend-prefix-keygen-3 c = fits (search) .3
 
 slice-aggregate-keygen-4 : tie.Need-slice-aggregate-keygen-4
-slice-aggregate-keygen-4 c = sym (length-take-le _ _ (fits (c .before .before .before .before .before .before) .3))
+slice-aggregate-keygen-4 c = sym (length-take-le _ _ (fits (search) .3))
 
 keygen-requires : tie.Need-keygen-requires
 keygen-requires c κs = search needs
@@ -123,13 +159,36 @@ same-length-3 c = search needs
 
 returns-2 : tie.Need-returns-2
 returns-2 c =
-    let a = c .before .before .before .before .before .before .before .before .before .before .before .before .before .before .before .before .before .before .before .before .before .before .before .before .args in
-    let p = c .before .before .before .before .before .before .before .before .before .before .before .before .before .before .before .before .before .before .before .parameters in
-    let fit = fits (c .before .before .before .before .before .before .before .before .before .before .before .before .before .before) in
+    let a = start .args in
+    let p = after-parameters .parameters in
+    let fit = fits after-keygen-work in
     keygen-gives (a .set) (p .result) (now (a .body)) (now (a .first)) (now (a .second)) (p .ensures .are)
     (now (a .work)) (p .ensures .well)
-    (ok (c .before .before .before .before .before .before .before .before .before .before .before .before .before .before .before .before .before)) (c .before .before .before .before .before .before .before .before .before .before .before .before .before .before .before .before .public-key .ensures .0) (c .before .before .before .before .before .before .before .before .before .before .before .before .before .before .before .secret-key .ensures) (c .before .before .before .before .before .before .before .before .before .before .before .before .before .before .keygen-work .ensures .0) (fit .1) (fit .2) (fit .3)
-    (c .before .before .before .before .before .before .before .keygen .ensures) (c .before .before .before .before .before .before .before .keygen .kept .1 .1 .1 .1 .0) (c .before .before .before .before .before .before .before .keygen .kept .1 .1 .1 .1 .1 .0) (c .outcome-of2 .ensures)
+    (ok else1) (after-public-key .public-key .ensures .0) (after-secret-key .secret-key .ensures)
+    (after-keygen-work .keygen-work .ensures .0) (fit .1) (fit .2) (fit .3)
+    (after-keygen .keygen .ensures) (after-keygen .keygen .kept .1 .1 .1 .1 .0) (after-keygen .keygen .kept .1 .1 .1 .1 .1 .0)
+    (c .outcome-of2 .ensures)
+  where
+    start : tie.Start
+    start = search
+
+    after-parameters : tie.After-parameters
+    after-parameters = search
+
+    else1 : tie.Else1
+    else1 = search
+
+    after-public-key : tie.After-public-key
+    after-public-key = search
+
+    after-secret-key : tie.After-secret-key
+    after-secret-key = search
+
+    after-keygen-work : tie.After-keygen-work
+    after-keygen-work = search
+
+    after-keygen : tie.After-keygen
+    after-keygen = search
 
 pub make-keys-spec : {M : Type 1} → statement M
 make-keys-spec =

@@ -7,11 +7,21 @@ use Rattle.record_calls.proofs.outcome_of.Tie as tie
 
 returns : tie.Need-returns
 returns c =
-    record { status-is = refl; first-is = rw (eq-eqb (c .before .args .status) 0 (c .if1 .taken)) refl; second-is = rw (eq-eqb (c .before .args .status) 0 (c .if1 .taken)) refl }
+    let start : tie.Start = search in
+    record {
+      status-is = refl;
+      first-is = rw (eq-eqb (start .args .status) 0 (c .if1 .taken)) refl;
+      second-is = rw (eq-eqb (start .args .status) 0 (c .if1 .taken)) refl;
+    }
 
 returns-2 : tie.Need-returns-2
 returns-2 c =
-    record { status-is = refl; first-is = rw (ne-eqb (c .before .args .status) 0 (c .if1 .left)) refl; second-is = rw (ne-eqb (c .before .args .status) 0 (c .if1 .left)) refl }
+    let start : tie.Start = search in
+    record {
+      status-is = refl;
+      first-is = rw (ne-eqb (start .args .status) 0 (c .if1 .left)) refl;
+      second-is = rw (ne-eqb (start .args .status) 0 (c .if1 .left)) refl;
+    }
 
 pub outcome-of-spec : {M : Type 1} → statement M
 outcome-of-spec = tie.close (tie.spec returns returns-2)

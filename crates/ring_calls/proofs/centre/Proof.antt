@@ -14,15 +14,20 @@ use Rattle.ring_calls.proofs.centre.Statement.{statement}
 use Rattle.ring_calls.proofs.centre.Tie as tie
 
 unpack-requires : tie.Need-unpack-requires
-unpack-requires c κs = (omega arith, rw (c .before .before .before .pre .2) (omega arith))
+unpack-requires c κs = let start : tie.Start = search in (omega arith, rw (start .pre .2) (omega arith))
 
 centre-requires : tie.Need-centre-requires
 centre-requires c κs =
-    let a = c .before .before .before .before .before .before .before .before .args in
-    let unpacked = c .before .before .before .before .unpack in
-    let few : 2 ^ a .w ≤ 2 ^ 10 = pow-mono (c .before .before .before .before .before .before .before .before .pre .0) in
-    let n = length (now (a .vs)) in
-    ((λ i. rw (unpacked .ensures) (omega (arith, unpack-below (a .w) n (now (a .bytes)) i))), omega arith, sym (unpacked .kept .1 .1 .0 ∙ c .before .before .before .before .before .before .before .before .pre .2))
+    let start : tie.Start = search in
+    let after-unpack : tie.After-unpack = search in
+    let a = start .args in
+    let unpacked = after-unpack .unpack in
+    let few : 2 ^ a .w ≤ 2 ^ 10 = pow-mono (start .pre .0) in
+    let n = length (now (a .vs)) in (
+      (λ i. rw (unpacked .ensures) (omega (arith, unpack-below (a .w) n (now (a .bytes)) i))),
+      omega arith,
+      sym (unpacked .kept .1 .1 .0 ∙ start .pre .2),
+    )
 
 same-length : tie.Need-same-length
 same-length c = search needs
@@ -32,10 +37,12 @@ same-length-2 c = search needs
 
 returns : tie.Need-returns
 returns c =
-    let a = c .before .before .before .before .before .before .before .before .before .before .args in
-    let unpacked = c .before .before .before .before .before .before .unpack in
-    c .before .centre .ensures
-    ∙ ap (centredIntegers (a .p)) (unpacked .ensures ∙ ap (λ (n : ℕ). unpack (a .w) n (now (a .bytes))) (c .before .before .before .before .before .before .before .before .before .before .pre .2))
+    let start : tie.Start = search in
+    let after-unpack : tie.After-unpack = search in
+    let after-centre : tie.After-centre = search in
+    let a = start .args in
+    after-centre .centre .ensures
+    ∙ ap (centredIntegers (a .p)) (after-unpack .unpack .ensures ∙ ap (λ (n : ℕ). unpack (a .w) n (now (a .bytes))) (start .pre .2))
 
 pub centre-spec : {M : Type 1} → statement M
 centre-spec =

@@ -16,6 +16,13 @@ Inv-loop xs₀ i₀ xs i = (i ≤ length xs₀) × (length xs ≡ length xs₀) 
 abbrev μ-loop : tie.MeasureT-loop
 μ-loop xs₀ i₀ xs i = length xs₀ - i
 
+-- The places of the code that the answers name.
+abbrev Start : Type 0
+Start = tie.Start Inv-loop μ-loop
+
+abbrev Turn : Type 0
+Turn = tie.At-loop Inv-loop μ-loop
+
 loop-holds : tie.Need-loop-holds Inv-loop μ-loop
 loop-holds c = (omega arith, refl, filled-none _ _)
 
@@ -33,20 +40,24 @@ loop-less c = omega arith
 
 loop-again : tie.Need-loop-again Inv-loop μ-loop
 loop-again c =
-    let h = c .before .loop in
-    let xs = now (c .before .before .args .xs) in (
+    let start : Start = search in
+    let turn : Turn = search in
+    let h = turn .loop in
+    let xs = now (start .args .xs) in (
       omega arith,
       simp length-set (h .inv .1),
       filled-more (h .i) (λ _. pos 0) xs (pos 0) (omega arith) (h .inv .2) refl,
     )
 
 same-length : tie.Need-same-length Inv-loop μ-loop
-same-length c = c .before .loop .inv .1
+same-length c = let turn : Turn = search in turn .loop .inv .1
 
 returns : tie.Need-returns Inv-loop μ-loop
 returns c =
-    let h = c .before .loop in
-    let xs = now (c .before .before .args .xs) in
+    let start : Start = search in
+    let turn : Turn = search in
+    let h = turn .loop in
+    let xs = now (start .args .xs) in
     filled-all (h .i) (length xs) (λ _. pos 0) xs refl (omega arith) (omega arith) (h .inv .2) ∙ tabulate-constant (length xs) (pos 0)
 
 pub clear-spec : {M : Type 1} → statement M

@@ -25,7 +25,9 @@ same-length : tie.Need-same-length
 same-length c = search needs
 
 returns-5 : tie.Need-returns-5
-returns-5 c = finish (search needs) (c .before .before .multiply-add .ensures)
+returns-5 c =
+    let after-multiply-add : tie.After-multiply-add = search in
+    finish (search needs) (after-multiply-add .multiply-add .ensures)
 
 pub ring-multiply-add-spec : {M : Type 1} → statement M
 ring-multiply-add-spec =

@@ -14,10 +14,10 @@ returns-2 : tie.Need-returns-2
 returns-2 c = refuse _ _ (λ f. omega (arith, f .1))
 
 mul-bytes : tie.Need-mul-bytes
-mul-bytes c = omega (arith, mul-le-mul (c .before .if1 .left) (c .if2 .left))
+mul-bytes c = let else1 : tie.Else1 = search in omega (arith, mul-le-mul (else1 .if1 .left) (c .if2 .left))
 
 add-bytes : tie.Need-add-bytes
-add-bytes c = omega (arith, mul-le-mul (c .before .if1 .left) (c .if2 .left))
+add-bytes c = let else1 : tie.Else1 = search in omega (arith, mul-le-mul (else1 .if1 .left) (c .if2 .left))
 
 returns-3 : tie.Need-returns-3
 returns-3 c = refuse _ _ (λ f. c .if3 .taken (f .2))
@@ -29,7 +29,7 @@ same-length : tie.Need-same-length
 same-length c = search needs
 
 returns-4 : tie.Need-returns-4
-returns-4 c = finish (search needs) (c .before .before .pack .ensures)
+returns-4 c = let after-pack : tie.After-pack = search in finish (search needs) (after-pack .pack .ensures)
 
 pub ring-pack-spec : {M : Type 1} → statement M
 ring-pack-spec =

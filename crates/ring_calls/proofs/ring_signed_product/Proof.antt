@@ -19,10 +19,16 @@ returns-3 : tie.Need-returns-3
 returns-3 c = refuse _ _ (λ f. omega (arith, f .near))
 
 mul-bytes : tie.Need-mul-bytes
-mul-bytes c = omega (arith, mul-le-mul (c .before .if2 .left) (c .before .before .if1 .left))
+mul-bytes c =
+    let else1 : tie.Else1 = search in
+    let else2 : tie.Else2 = search in
+    omega (arith, mul-le-mul (else2 .if2 .left) (else1 .if1 .left))
 
 add-bytes : tie.Need-add-bytes
-add-bytes c = omega (arith, mul-le-mul (c .before .if2 .left) (c .before .before .if1 .left))
+add-bytes c =
+    let else1 : tie.Else1 = search in
+    let else2 : tie.Else2 = search in
+    omega (arith, mul-le-mul (else2 .if2 .left) (else1 .if1 .left))
 
 returns-4 : tie.Need-returns-4
 returns-4 c = refuse _ _ (λ f. omega (arith, f .first))
@@ -44,7 +50,8 @@ array-borrow-prefix-vs c = search needs
 
 slice-aggregate-multiply : tie.Need-slice-aggregate-multiply
 slice-aggregate-multiply c =
-    let room : length (c .before .before .before .values .result) ≡ 512 = search needs in
+    let after-values : tie.After-values = search in
+    let room : length (after-values .values .result) ≡ 512 = search needs in
     simp length-take (omega arith)
 
 array-borrow-prefix-xs : tie.Need-array-borrow-prefix-xs
@@ -52,7 +59,8 @@ array-borrow-prefix-xs c = search needs
 
 slice-aggregate-multiply-2 : tie.Need-slice-aggregate-multiply-2
 slice-aggregate-multiply-2 c =
-    let room : length (c .before .before .before .integers .result) ≡ 512 = search needs in
+    let after-integers : tie.After-integers = search in
+    let room : length (after-integers .integers .result) ≡ 512 = search needs in
     simp length-take (omega arith)
 
 array-borrow-prefix-ys : tie.Need-array-borrow-prefix-ys
@@ -60,22 +68,29 @@ array-borrow-prefix-ys c = search needs
 
 slice-aggregate-multiply-3 : tie.Need-slice-aggregate-multiply-3
 slice-aggregate-multiply-3 c =
-    let room : length (c .before .before .before .integers2 .result) ≡ 512 = search needs in
+    let after-integers2 : tie.After-integers2 = search in
+    let room : length (after-integers2 .integers2 .result) ≡ 512 = search needs in
     simp length-take (omega arith)
 
 multiply-requires : tie.Need-multiply-requires
 multiply-requires c κs =
-    let a = c .before .before .before .before .before .before .before .before .before .before .before .before .before .before .args in
-    let v : length (c .before .before .before .before .before .before .values .result) ≡ 512 = search needs in
-    let x : length (c .before .before .before .before .before .integers .result) ≡ 512 = search needs in
-    let y : length (c .before .before .before .before .integers2 .result) ≡ 512 = search needs in
+    let start : tie.Start = search in
+    let after-values : tie.After-values = search in
+    let after-integers : tie.After-integers = search in
+    let after-integers2 : tie.After-integers2 = search in
+    let a = start .args in
+    let v : length (after-values .values .result) ≡ 512 = search needs in
+    let x : length (after-integers .integers .result) ≡ 512 = search needs in
+    let y : length (after-integers2 .integers2 .result) ≡ 512 = search needs in
     (search needs, simp length-take (omega arith), simp length-take (omega arith), simp length-take (omega arith))
 
 same-length : tie.Need-same-length
 same-length c = search needs
 
 returns-6 : tie.Need-returns-6
-returns-6 c = finish (search needs) (c .before .before .before .before .multiply .ensures)
+returns-6 c =
+    let after-multiply : tie.After-multiply = search in
+    finish (search needs) (after-multiply .multiply .ensures)
 
 pub ring-signed-product-spec : {M : Type 1} → statement M
 ring-signed-product-spec =

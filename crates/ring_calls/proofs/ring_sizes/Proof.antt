@@ -29,13 +29,14 @@ number false = refl
 
 returns : tie.Need-returns
 returns c =
-    let start = c .before .before in
+    let start : tie.Start = search in
+    let after-largest : tie.After-largest = search in
     let a = start .args in
     let said : c .all-between .result ≡ allBetween (a .low) (a .high) (now (a .xs)) =
     c .all-between .ensures
     ∙ ap₂ (λ (l h : ℤ). allBetween l h (now (a .xs))) (toZ-ofZ w32 (a .low) (start .fits .low)) (toZ-ofZ w32 (a .high) (start .fits .high))
     in
-    (number (c .all-between .result) ∙ ap (λ (b : Bool). cond {A = ℕ} b 1 0) said, c .before .largest .ensures)
+    (number (c .all-between .result) ∙ ap (λ (b : Bool). cond {A = ℕ} b 1 0) said, after-largest .largest .ensures)
 
 pub ring-sizes-spec : {M : Type 1} → statement M
 ring-sizes-spec = tie.close (tie.spec largest-requires all-between-requires cast-result returns)

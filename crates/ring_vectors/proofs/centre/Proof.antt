@@ -23,8 +23,9 @@ reduce-requires c κs = search needs
 
 centre-requires : tie.Need-centre-requires
 centre-requires c κs =
-    let reduced = c .before .before .before .before in
-    let a = reduced .before .before .before .args in
+    let start : tie.Start = search in
+    let reduced : tie.After-reduce = search in
+    let a = start .args in
     let is : reduced .reduce .last .0 ≡ lowBits (a .w) (now (a .values)) = reduced .reduce .ensures in
     ((λ i. rw is (omega (arith, low (a .w) (now (a .values)) (omega arith) i))), search needs, search needs)
 
@@ -36,12 +37,14 @@ same-length-2 c = search needs
 
 returns : tie.Need-returns
 returns c =
-    let reduced = c .before .before .before .before .before .before in
-    let a = reduced .before .before .before .args in
+    let start : tie.Start = search in
+    let reduced : tie.After-reduce = search in
+    let after-centre : tie.After-centre = search in
+    let a = start .args in
     let values = reduced .reduce .last .0 in
     let is : values ≡ lowBits (a .w) (now (a .values)) = reduced .reduce .ensures in
     let below : Below 1024 values = λ i. rw is (low (a .w) (now (a .values)) (omega arith) i) in
-    rw (c .before .centre .ensures) (largest-centred (a .p) 1024 values (omega arith) (λ i. omega (arith, below i)))
+    rw (after-centre .centre .ensures) (largest-centred (a .p) 1024 values (omega arith) (λ i. omega (arith, below i)))
 
 pub centre-spec : {M : Type 1} → statement M
 centre-spec =

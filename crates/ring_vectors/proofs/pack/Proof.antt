@@ -18,8 +18,8 @@ returns c = search needs
 
 pack-requires : tie.Need-pack-requires
 pack-requires c κs =
-    let read = c .before .before .before .before .before in
-    let start = read .before .before .before .before in
+    let start : tie.Start = search in
+    let read : tie.After-read-list = search in
     let kept : length (read .read-list .last .0) ≡ length (now (start .args .xs)) = read .read-list .kept .0 in
     (search needs, rw kept (start .pre .1))
 

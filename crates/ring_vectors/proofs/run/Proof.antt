@@ -48,8 +48,9 @@ slice-aggregate-choose-4 c = simp length-take (omega arith)
 
 choose-requires : tie.Need-choose-requires
 choose-requires c κs =
-    let first = c .before .before .before .before .before .before .before .before in
-    let n = first .before .args .n in
+    let start : tie.Start = search in
+    let first : tie.After-coefficients = search in
+    let n = start .args .n in
     let whole : length (take n (first .coefficients .result)) ≡ n = simp length-take (omega arith) in
     rw whole (simp length-take (omega arith))
 

@@ -55,12 +55,13 @@ slice-aggregate-signed-product-4 c = simp length-take (omega arith)
 
 signed-product-requires : tie.Need-signed-product-requires
 signed-product-requires c κs =
-    let zero-sum = c .before .before .before .before .before .before in (
+    let start : tie.Start = search in
+    let zero-sum : tie.After-integers = search in (
       simp length-take (omega arith),
       simp length-take (omega arith),
       simp length-take (omega arith),
       simp length-take (omega arith),
-      rw (zero-sum .integers .ensures) (zeros 512 (zero-sum .before .before .args .n)),
+      rw (zero-sum .integers .ensures) (zeros 512 (start .args .n)),
     )
 
 returns : tie.Need-returns

@@ -11,6 +11,12 @@ use Rattle.ring.specs.Integers.{largest}
 use Rattle.ring_vectors.proofs.signed_product.Statement.{statement}
 use Rattle.ring_vectors.proofs.signed_product.Tie as tie
 
+-- From a place back to one that is far before it.
+abbrev start-of-values2 : tie.After-values2 → tie.Start
+start-of-values2 c = search
+
+ruleset places = (start-of-values2)
+
 returns : tie.Need-returns
 returns c = search needs
 
@@ -46,9 +52,9 @@ centre-requires-2 c κs = search needs
 
 multiply-add-requires : tie.Need-multiply-add-requires
 multiply-add-requires c κs =
-    let two = c .before .before .before .before .before .before in
-    let one = two .before .before .before .before .before .before .before .before .before .before .before in
-    let start = one .before .before .before .before .before .before .before .before .before .before .before in
+    let start : tie.Start = search places in
+    let one : tie.After-centre = search in
+    let two : tie.After-centre2 = search in
     let acc = now (start .args .acc) in
     let a = one .centre .last .1 .1 .1 .0 in
     let b = two .centre2 .last .1 .1 .1 .0 in

@@ -35,16 +35,18 @@ add-line c = search needs
 
 array-share-prefix-line : tie.Need-array-share-prefix-line
 array-share-prefix-line c =
-    let done = c .before in
-    let digits : length (done .spell .last .1 .0) ≡ 2 * length (now (done .before .before .before .before .before .args .answer)) =
+    let start : tie.Start = search in
+    let done : tie.After-spell = search in
+    let digits : length (done .spell .last .1 .0) ≡ 2 * length (now (start .args .answer)) =
     done .spell .kept .1 .0 ∙ simp length-take (omega arith)
     in
     simp (length-append, length-drop, length-set) (omega arith)
 
 slice-aggregate-write-all : tie.Need-slice-aggregate-write-all
 slice-aggregate-write-all c =
-    let done = c .before .before in
-    let digits : length (done .spell .last .1 .0) ≡ 2 * length (now (done .before .before .before .before .before .args .answer)) =
+    let start : tie.Start = search in
+    let done : tie.After-spell = search in
+    let digits : length (done .spell .last .1 .0) ≡ 2 * length (now (start .args .answer)) =
     done .spell .kept .1 .0 ∙ simp length-take (omega arith)
     in
     simp (length-take, length-append, length-drop, length-set) (omega arith)

@@ -2,30 +2,37 @@
 -- Assumes nothing.
 use mathlib.Core.Bool.{Bool, _&&_}
 use mathlib.Core.Path.{_≡_, refl, sym, ap, _∙_}
-use Prim.Native.Nat.{_-_, _≤_}
+use Prim.Native.Nat.{_-_}
 use native.Mathlib.Numerals.{add-one}
 use native.Mathlib.Omega.{arith}
 use denote.Ref.{now}
 use lib.IntN.{pos}
 use lib.ListN.{length, getD, take}
-use lib.Seq.{take-all}
 use mir.Syntax.{w32}
 use mir.Val.{toZ, ofZ}
 use mir.ValLaws.{toZ-ofZ}
 use Rattle.ring.proofs.Sizes.{all-more}
 use Rattle.ring.specs.Integers.{between, allBetween}
+use Rattle.keccak.proofs.Loops.{Carried, carried-list}
 use Rattle.signed.proofs.all_between.Statement.{statement}
 use Rattle.signed.proofs.all_between.Tie as tie
 
 abbrev Inv-loop : tie.InvT-loop
-Inv-loop xs low high all₀ i₀ all i = (i ≤ length xs) × (all ≡ allBetween (toZ w32 low) (toZ w32 high) (take i xs))
+Inv-loop xs low high all₀ i₀ all i = Carried (length xs) (λ k. allBetween (toZ w32 low) (toZ w32 high) (take k xs)) i all
 
 abbrev μ-loop : tie.MeasureT-loop
 μ-loop xs low high all₀ i₀ all i = length xs - i
 
+-- The places of the code that the answers name.
+abbrev Start : Type 0
+Start = tie.Start Inv-loop μ-loop
+
+abbrev Turn : Type 0
+Turn = tie.At-loop Inv-loop μ-loop
+
 loop-holds : tie.Need-loop-holds Inv-loop μ-loop
 unfolding allBetween
-loop-holds c = (omega arith, refl)
+loop-holds c = record { within = omega arith; is = refl }
 
 mul-x : tie.Need-mul-x Inv-loop μ-loop
 mul-x c = omega arith
@@ -41,24 +48,28 @@ loop-less c = omega arith
 
 loop-again : tie.Need-loop-again Inv-loop μ-loop
 loop-again c =
-    let h = c .before .before .loop in
-    let a = c .before .before .before .args in
-    let xs = now (a .xs) in
+    let start : Start = search in
+    let turn : Turn = search in
+    let a = start .args in
     let low = toZ w32 (ofZ w32 (a .low)) in
     let high = toZ w32 (ofZ w32 (a .high)) in
-    let x = getD xs (h .i) (pos 0) in
-    let same : toZ w32 (ofZ w32 x) ≡ x = toZ-ofZ w32 x (record { sfits = c .x .given }) in (
-      omega arith,
-      rw (add-one, same)
-          (ap (λ (t : Bool). t && between low high x) (h .inv .1) ∙ sym (all-more low high xs (h .i) (pos 0) (omega arith))),
-    )
+    let x = getD (now (a .xs)) (turn .loop .i) (pos 0) in
+    let same : toZ w32 (ofZ w32 x) ≡ x = toZ-ofZ w32 x (record { sfits = c .x .given }) in
+    record {
+      within = omega arith;
+      is =
+          rw (add-one, same)
+          (ap (λ (t : Bool). t && between low high x) (turn .loop .inv .is)
+          ∙ sym (all-more low high (now (a .xs)) (turn .loop .i) (pos 0) (omega arith)));
+    }
 
 returns : tie.Need-returns Inv-loop μ-loop
 returns c =
-    let h = c .before .loop in
-    let a = c .before .before .args in
-    h .inv .1 ∙ rw (toZ-ofZ w32 (a .low) (c .before .before .fits .low), toZ-ofZ w32 (a .high) (c .before .before .fits .high))
-    (ap (allBetween (a .low) (a .high)) (take-all (h .i) (now (a .xs)) (omega arith)))
+    let start : Start = search in
+    let turn : Turn = search in
+    let a = start .args in
+    carried-list (now (a .xs)) (allBetween (toZ w32 (ofZ w32 (a .low))) (toZ w32 (ofZ w32 (a .high)))) (turn .loop .inv) (omega arith)
+    ∙ rw (toZ-ofZ w32 (a .low) (start .fits .low), toZ-ofZ w32 (a .high) (start .fits .high))
 
 pub all-between-spec : {M : Type 1} → statement M
 all-between-spec =

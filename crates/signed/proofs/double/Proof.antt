@@ -1,16 +1,13 @@
 -- `signed::double` meets its contract: the factor backwards, then the negated factor backwards.
 -- Assumes nothing.
-use mathlib.Core.List.{List, _++_}
-use mathlib.Core.Path.{_≡_, ap, _∙_}
+use mathlib.Core.List.{_++_}
+use mathlib.Core.Path.{_≡_, ap, _∙_, ap₂}
 use native.Mathlib.Omega.{arith}
 use borrow.Author.Needs.{needs}
 use denote.Ref.{now}
-use lib.IntN.{ℤ}
-use lib.ListN.{length, drop, length-take}
-use lib.Seq.{take-at}
+use lib.ListN.{length, length-take}
 use Rattle.keccak.proofs.Entries.{length-tabulate}
-use Rattle.keccak.proofs.Parts.{patched-rest}
-use Rattle.ring.specs.Terms.{backwards}
+use Rattle.keccak.proofs.Parts.{both-parts}
 use Rattle.signed.proofs.double.Statement.{statement}
 use Rattle.signed.proofs.double.Tie as tie
 
@@ -43,14 +40,12 @@ same-length c = search needs
 
 returns : tie.Need-returns
 returns c =
-    let a = c .before .before .before .before .before .before .args in
-    let n = length (now (a .b)) in
-    let front = c .before .before .before .before .reverse .last .1 .0 in
-    let back = c .before .reverse-negated .last .1 .0 in
-    let e : front ≡ backwards (now (a .b)) = c .before .before .before .before .reverse .ensures in
-    let long : length front ≡ n = ap length e ∙ simp length-tabulate in
-    patched-rest n back (front ++ drop n (now (a .row))) ∙ ap (λ (l : List ℤ). l ++ back) (take-at front (drop n (now (a .row))) n long)
-    ∙ ap (λ (l : List ℤ). l ++ back) e ∙ ap (λ (l : List ℤ). backwards (now (a .b)) ++ l) (c .before .reverse-negated .ensures)
+    let start : tie.Start = search in
+    let front : tie.After-reverse = search in
+    let back : tie.After-reverse-negated = search in
+    let long : length (front .reverse .last .1 .0) ≡ length (now (start .args .b)) = ap length (front .reverse .ensures) ∙ simp length-tabulate in
+    both-parts (length (now (start .args .b))) (front .reverse .last .1 .0) (back .reverse-negated .last .1 .0) (now (start .args .row)) long
+    ∙ ap₂ _++_ (front .reverse .ensures) (back .reverse-negated .ensures)
 
 pub double-spec : {M : Type 1} → statement M
 double-spec =

@@ -1,18 +1,17 @@
 -- `signed::four` meets its contract.
 -- Assumes nothing.
-use mathlib.Core.Path.{_≡_, ap, ap₂, _∙_}
-use Prim.Native.Nat.{ℕ, _+_}
-use native.Mathlib.Nat.{add-zero}
+use mathlib.Core.Path.{_≡_, ap₂, _∙_}
+use Prim.Native.Nat.{_+_}
 use native.Mathlib.Omega.{arith}
 use denote.Ref.{now}
-use lib.IntN.{ℤ, _+ℤ_, _*ℤ_}
-use mir.Syntax.{w16, w32}
+use lib.IntN.{_+ℤ_, _*ℤ_}
+use mir.Syntax.{w16}
 use mir.Val.{toZ, ofZ}
-use mir.ValLaws.{toZ-ofZ}
-use Rattle.ring.proofs.Sizes.{word-sum, term-read, two-fit, terms-fit, four-terms}
-use Rattle.ring.specs.Poly.{sum, ofInts}
+use Rattle.ring.proofs.Sizes.{term-read, two-fit, terms-fit}
+use Rattle.ring.specs.Poly.{ofInts}
 use Rattle.ring.specs.Terms.{terms}
 use borrow.Author.Needs.{needs}
+use Rattle.signed.proofs.Summing.{both-fits, both-value, four-pairs}
 use Rattle.signed.proofs.four.Statement.{statement}
 use Rattle.signed.proofs.four.Tie as tie
 
@@ -47,26 +46,54 @@ shared-slice-copy-out-pair-4 : tie.Need-shared-slice-copy-out-pair-4
 shared-slice-copy-out-pair-4 c = search needs
 
 -- The terms that the four places give.
-first : (c : tie.After-pair-arg2) → toZ w16 (ofZ w16 (ofInts (now (c .before .before .args .a)) (c .before .before .args .i))) *ℤ toZ w16 (ofZ w16 (ofInts (now (c .before .before .args .b)) (c .before .before .args .i)))
-    ≡ terms (now (c .before .before .args .a)) (now (c .before .before .args .b)) (c .before .before .args .i)
-first c = term-read (now (c .before .before .args .a)) (now (c .before .before .args .b)) (c .before .before .args .i) (record { sfits = c .before .pair-arg .given }) (record { sfits = c .pair-arg2 .given })
+first : (c : tie.After-pair-arg2) →
+    let start : tie.Start = search in
+    toZ w16 (ofZ w16 (ofInts (now (start .args .a)) (start .args .i))) *ℤ toZ w16 (ofZ w16 (ofInts (now (start .args .b)) (start .args .i)))
+    ≡ terms (now (start .args .a)) (now (start .args .b)) (start .args .i)
+first c =
+    let start : tie.Start = search in
+    let after-pair-arg : tie.After-pair-arg = search in
+    term-read (now (start .args .a)) (now (start .args .b)) (start .args .i) (record { sfits = after-pair-arg .pair-arg .given })
+    (record { sfits = c .pair-arg2 .given })
 
-second : (c : tie.After-pair-arg4) → toZ w16 (ofZ w16 (ofInts (now (c .before .before .before .before .args .a)) (c .before .before .before .before .args .i + 1))) *ℤ toZ w16 (ofZ w16 (ofInts (now (c .before .before .before .before .args .b)) (c .before .before .before .before .args .i + 1)))
-    ≡ terms (now (c .before .before .before .before .args .a)) (now (c .before .before .before .before .args .b)) (c .before .before .before .before .args .i + 1)
-second c = term-read (now (c .before .before .before .before .args .a)) (now (c .before .before .before .before .args .b)) (c .before .before .before .before .args .i + 1) (record { sfits = c .before .pair-arg3 .given }) (record { sfits = c .pair-arg4 .given })
+second : (c : tie.After-pair-arg4) →
+    let start : tie.Start = search in
+    toZ w16 (ofZ w16 (ofInts (now (start .args .a)) (start .args .i + 1))) *ℤ toZ w16
+    (ofZ w16 (ofInts (now (start .args .b)) (start .args .i + 1)))
+    ≡ terms (now (start .args .a)) (now (start .args .b)) (start .args .i + 1)
+second c =
+    let start : tie.Start = search in
+    let after-pair-arg3 : tie.After-pair-arg3 = search in
+    term-read (now (start .args .a)) (now (start .args .b)) (start .args .i + 1) (record { sfits = after-pair-arg3 .pair-arg3 .given })
+    (record { sfits = c .pair-arg4 .given })
 
-third : (c : tie.After-pair-arg6) → toZ w16 (ofZ w16 (ofInts (now (c .before .before .before .before .before .before .before .args .a)) (c .before .before .before .before .before .before .before .args .i + 2))) *ℤ toZ w16 (ofZ w16 (ofInts (now (c .before .before .before .before .before .before .before .args .b)) (c .before .before .before .before .before .before .before .args .i + 2)))
-    ≡ terms (now (c .before .before .before .before .before .before .before .args .a)) (now (c .before .before .before .before .before .before .before .args .b)) (c .before .before .before .before .before .before .before .args .i + 2)
-third c = term-read (now (c .before .before .before .before .before .before .before .args .a)) (now (c .before .before .before .before .before .before .before .args .b)) (c .before .before .before .before .before .before .before .args .i + 2) (record { sfits = c .before .pair-arg5 .given }) (record { sfits = c .pair-arg6 .given })
+third : (c : tie.After-pair-arg6) →
+    let start : tie.Start = search in
+    toZ w16 (ofZ w16 (ofInts (now (start .args .a)) (start .args .i + 2))) *ℤ toZ w16
+    (ofZ w16 (ofInts (now (start .args .b)) (start .args .i + 2)))
+    ≡ terms (now (start .args .a)) (now (start .args .b)) (start .args .i + 2)
+third c =
+    let start : tie.Start = search in
+    let after-pair-arg5 : tie.After-pair-arg5 = search in
+    term-read (now (start .args .a)) (now (start .args .b)) (start .args .i + 2) (record { sfits = after-pair-arg5 .pair-arg5 .given })
+    (record { sfits = c .pair-arg6 .given })
 
-fourth : (c : tie.After-pair-arg8) → toZ w16 (ofZ w16 (ofInts (now (c .before .before .before .before .before .before .before .before .before .args .a)) (c .before .before .before .before .before .before .before .before .before .args .i + 3))) *ℤ toZ w16 (ofZ w16 (ofInts (now (c .before .before .before .before .before .before .before .before .before .args .b)) (c .before .before .before .before .before .before .before .before .before .args .i + 3)))
-    ≡ terms (now (c .before .before .before .before .before .before .before .before .before .args .a)) (now (c .before .before .before .before .before .before .before .before .before .args .b)) (c .before .before .before .before .before .before .before .before .before .args .i + 3)
-fourth c = term-read (now (c .before .before .before .before .before .before .before .before .before .args .a)) (now (c .before .before .before .before .before .before .before .before .before .args .b)) (c .before .before .before .before .before .before .before .before .before .args .i + 3) (record { sfits = c .before .pair-arg7 .given }) (record { sfits = c .pair-arg8 .given })
+fourth : (c : tie.After-pair-arg8) →
+    let start : tie.Start = search in
+    toZ w16 (ofZ w16 (ofInts (now (start .args .a)) (start .args .i + 3))) *ℤ toZ w16
+    (ofZ w16 (ofInts (now (start .args .b)) (start .args .i + 3)))
+    ≡ terms (now (start .args .a)) (now (start .args .b)) (start .args .i + 3)
+fourth c =
+    let start : tie.Start = search in
+    let after-pair-arg7 : tie.After-pair-arg7 = search in
+    term-read (now (start .args .a)) (now (start .args .b)) (start .args .i + 3) (record { sfits = after-pair-arg7 .pair-arg7 .given })
+    (record { sfits = c .pair-arg8 .given })
 
 pair-requires : tie.Need-pair-requires
 pair-requires c κs =
-    let a = c .before .before .before .before .args in
-    rw (first (c .before .before), second c) (two-fit (now (a .a)) (now (a .b)) (a .i) 4 (a .i) (a .i + 1) (c .before .before .before .before .pre) (omega arith))
+    let start : tie.Start = search in
+    let a = start .args in
+    rw (first (search), second c) (two-fit (now (a .a)) (now (a .b)) (a .i) 4 (a .i) (a .i + 1) (start .pre) (omega arith))
 
 add-pair-3 : tie.Need-add-pair-3
 add-pair-3 c = search needs
@@ -106,26 +133,38 @@ shared-slice-copy-out-pair-8 c = search needs
 
 pair-requires-2 : tie.Need-pair-requires-2
 pair-requires-2 c κs =
-    let a = c .before .before .before .before .before .before .before .before .before .args in
-    rw (third (c .before .before), fourth c) (two-fit (now (a .a)) (now (a .b)) (a .i) 4 (a .i + 2) (a .i + 3) (c .before .before .before .before .before .before .before .before .before .pre) (omega arith))
+    let start : tie.Start = search in
+    let a = start .args in
+    rw (third (search), fourth c) (two-fit (now (a .a)) (now (a .b)) (a .i) 4 (a .i + 2) (a .i + 3) (start .pre) (omega arith))
 
--- Both pairs added.
-all : (c : tie.After-pair2) → toZ w32 (ofZ w32 (c .before .before .before .before .before .pair .result)) +ℤ toZ w32 (ofZ w32 (c .pair2 .result)) ≡ sum 4 (λ j. terms (now (c .before .before .before .before .before .before .before .before .before .before .args .a)) (now (c .before .before .before .before .before .before .before .before .before .before .args .b)) (c .before .before .before .before .before .before .before .before .before .before .args .i + j))
-all c =
-    let a = c .before .before .before .before .before .before .before .before .before .before .args in
-    let g : ℕ → ℤ = λ j. terms (now (a .a)) (now (a .b)) (a .i + j) in
-    let zero : terms (now (a .a)) (now (a .b)) (a .i) ≡ g 0 = ap (terms (now (a .a)) (now (a .b))) (omega arith) in
-    word-sum (record { sfits = c .before .before .before .before .before .pair .ok }) (record { sfits = c .pair2 .ok })
-    (c .before .before .before .before .before .pair .ensures ∙ ap₂ _+ℤ_ (first (c .before .before .before .before .before .before .before .before) ∙ zero) (second (c .before .before .before .before .before .before))) (c .pair2 .ensures ∙ ap₂ _+ℤ_ (third (c .before .before .before)) (fourth (c .before)))
-    ∙ four-terms g
+-- What the two pairs are.
+first-pair : (c : tie.After-pair) →
+    let start : tie.Start = search in
+    let a = start .args in
+    c .pair .result ≡ terms (now (a .a)) (now (a .b)) (a .i) +ℤ terms (now (a .a)) (now (a .b)) (a .i + 1)
+first-pair c = c .pair .ensures ∙ ap₂ _+ℤ_ (first search) (second search)
+
+second-pair : (c : tie.After-pair2) →
+    let start : tie.Start = search in
+    let a = start .args in
+    c .pair2 .result ≡ terms (now (a .a)) (now (a .b)) (a .i + 2) +ℤ terms (now (a .a)) (now (a .b)) (a .i + 3)
+second-pair c = c .pair2 .ensures ∙ ap₂ _+ℤ_ (third search) (fourth search)
 
 add-result : tie.Need-add-result
-add-result c = rw (all c) (terms-fit (now (c .before .before .before .before .before .before .before .before .before .before .args .a)) (now (c .before .before .before .before .before .before .before .before .before .before .args .b)) (c .before .before .before .before .before .before .before .before .before .before .args .i) 4 4 (c .before .before .before .before .before .before .before .before .before .before .pre) (omega arith))
+add-result c =
+    let start : tie.Start = search in
+    let first : tie.After-pair = search in
+    let a = start .args in
+    both-fits (record { sfits = first .pair .ok }) (record { sfits = c .pair2 .ok }) (first-pair first) (second-pair c)
+    (four-pairs (now (a .a)) (now (a .b)) (a .i)) (terms-fit (now (a .a)) (now (a .b)) (a .i) 4 4 (start .pre) (omega arith))
 
 returns : tie.Need-returns
 returns c =
-    let a = c .before .before .before .before .before .before .before .before .before .before .args in
-    ap (λ (z : ℤ). toZ w32 (ofZ w32 z)) (all c) ∙ toZ-ofZ w32 _ (terms-fit (now (a .a)) (now (a .b)) (a .i) 4 4 (c .before .before .before .before .before .before .before .before .before .before .pre) (omega arith))
+    let start : tie.Start = search in
+    let first : tie.After-pair = search in
+    let a = start .args in
+    both-value (record { sfits = first .pair .ok }) (record { sfits = c .pair2 .ok }) (first-pair first) (second-pair c)
+    (four-pairs (now (a .a)) (now (a .b)) (a .i)) (terms-fit (now (a .a)) (now (a .b)) (a .i) 4 4 (start .pre) (omega arith))
 
 pub four-spec : {M : Type 1} → statement M
 four-spec =

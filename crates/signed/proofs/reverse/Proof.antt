@@ -1,28 +1,29 @@
 -- `signed::reverse` meets its contract: after i turns the last i coefficients are copied, the last one first.
 -- Assumes nothing.
-use mathlib.Core.Path.{_≡_, refl}
-use Prim.Native.Nat.{_-_, _≤_}
+use Prim.Native.Nat.{_-_}
 use native.Mathlib.Omega.{arith}
-use denote.Ref.{now}
 use lib.IntN.{pos}
-use lib.ListN.{length, length-set}
+use lib.ListN.{length}
 use mir.Syntax.{w16}
-use mir.Val.{toZ, ofZ}
 use mir.ValLaws.{toZ-ofZ}
-use Rattle.bits.proofs.Filling.{filled, filled-none, filled-more, filled-all}
 use Rattle.ring.specs.Poly.{ofInts}
+use borrow.Author.Needs.{needs}
+use Rattle.bits.proofs.Filling.{Filling, filling-begun, filling-more, filling-all}
 use Rattle.signed.proofs.reverse.Statement.{statement}
 use Rattle.signed.proofs.reverse.Tie as tie
 
 abbrev Inv-loop : tie.InvT-loop
-Inv-loop src dst₀ n i₀ dst i =
-    (i ≤ length dst₀) × (length dst ≡ length dst₀) × (dst ≡ filled i (λ j. ofInts src (length src - 1 - j)) dst₀)
+Inv-loop src dst₀ n i₀ dst i = Filling (λ j. ofInts src (length src - 1 - j)) dst₀ i dst
 
 abbrev μ-loop : tie.MeasureT-loop
 μ-loop src dst₀ n i₀ dst i = length dst₀ - i
 
+-- The place that the answers name.
+abbrev Turn : Type 0
+Turn = tie.At-loop Inv-loop μ-loop
+
 loop-holds : tie.Need-loop-holds Inv-loop μ-loop
-loop-holds c = (omega arith, refl, filled-none _ _)
+loop-holds c = filling-begun
 
 sub-dst : tie.Need-sub-dst Inv-loop μ-loop
 sub-dst c = omega arith
@@ -50,23 +51,16 @@ loop-less c = omega arith
 
 loop-again : tie.Need-loop-again Inv-loop μ-loop
 loop-again c =
-    let h = c .before .before .loop in
-    let a = c .before .before .before .args in
-    let x = ofInts (now (a .src)) (length (now (a .src)) - 1 - h .i) in
-    let same : toZ w16 (ofZ w16 x) ≡ x = toZ-ofZ w16 x (record { sfits = c .dst .given }) in (
-      omega arith,
-      simp length-set (h .inv .1),
-      filled-more (h .i) (λ j. ofInts (now (a .src)) (length (now (a .src)) - 1 - j)) (now (a .dst)) (pos 0) (omega arith) (h .inv .2) same,
-    )
+    let turn : Turn = search in
+    filling-more (pos 0) (turn .loop .inv) (omega arith) (toZ-ofZ w16 _ (record { sfits = c .dst .given }))
 
 same-length : tie.Need-same-length Inv-loop μ-loop
-same-length c = c .before .loop .inv .1
+same-length c = search needs
 
 returns : tie.Need-returns Inv-loop μ-loop
 returns c =
-    let h = c .before .loop in
-    let a = c .before .before .args in
-    filled-all (h .i) (length (now (a .src))) (λ j. ofInts (now (a .src)) (length (now (a .src)) - 1 - j)) (now (a .dst)) (omega arith) (omega arith) (omega arith) (h .inv .2)
+    let turn : Turn = search in
+    filling-all (turn .loop .inv) (omega arith) (omega arith)
 
 pub reverse-spec : {M : Type 1} → statement M
 reverse-spec =

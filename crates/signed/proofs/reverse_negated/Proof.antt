@@ -1,30 +1,36 @@
 -- `signed::reverse_negated` meets its contract: after i turns the last i coefficients are negated, the last one first.
 -- Assumes nothing.
-use mathlib.Core.Path.{_≡_, refl, ap, _∙_}
-use Prim.Native.Nat.{_-_, _≤_}
+use mathlib.Core.Path.{ap, _∙_}
+use Prim.Native.Nat.{_-_}
 use native.Mathlib.Nat.{lt-of-le-of-lt}
 use native.Mathlib.Omega.{arith}
 use denote.Ref.{now}
 use lib.IntN.{pos, negℤ}
-use lib.ListN.{length, length-set}
+use lib.ListN.{length}
 use mir.Syntax.{w16}
-use mir.Val.{toZ, ofZ}
 use mir.ValLaws.{toZ-ofZ}
-use Rattle.bits.proofs.Filling.{filled, filled-none, filled-more, filled-all}
 use Rattle.ring.proofs.Sizes.{le-largest}
 use Rattle.ring.specs.Poly.{ofInts}
+use borrow.Author.Needs.{needs}
+use Rattle.bits.proofs.Filling.{Filling, filling-begun, filling-more, filling-all}
 use Rattle.signed.proofs.reverse_negated.Statement.{statement}
 use Rattle.signed.proofs.reverse_negated.Tie as tie
 
 abbrev Inv-loop : tie.InvT-loop
-Inv-loop src dst₀ n i₀ dst i =
-    (i ≤ length dst₀) × (length dst ≡ length dst₀) × (dst ≡ filled i (λ j. negℤ (ofInts src (length src - 1 - j))) dst₀)
+Inv-loop src dst₀ n i₀ dst i = Filling (λ j. negℤ (ofInts src (length src - 1 - j))) dst₀ i dst
 
 abbrev μ-loop : tie.MeasureT-loop
 μ-loop src dst₀ n i₀ dst i = length dst₀ - i
 
+-- The places of the code that the answers name.
+abbrev Start : Type 0
+Start = tie.Start Inv-loop μ-loop
+
+abbrev Turn : Type 0
+Turn = tie.At-loop Inv-loop μ-loop
+
 loop-holds : tie.Need-loop-holds Inv-loop μ-loop
-loop-holds c = (omega arith, refl, filled-none _ _)
+loop-holds c = filling-begun
 
 sub-negative : tie.Need-sub-negative Inv-loop μ-loop
 sub-negative c = omega arith
@@ -40,10 +46,11 @@ shared-slice-copy-out-negative c = omega arith
 
 negative-requires : tie.Need-negative-requires Inv-loop μ-loop
 negative-requires c κs =
-    let h = c .before .before .loop in
-    let src = now (c .before .before .before .args .src) in
-    let i = length src - 1 - h .i in
-    rw (toZ-ofZ w16 (ofInts src i) (record { sfits = c .negative-arg .given })) (lt-of-le-of-lt (le-largest src i) (c .before .before .before .pre .1))
+    let start : Start = search in
+    let turn : Turn = search in
+    let src = now (start .args .src) in
+    let i = length src - 1 - turn .loop .i in
+    rw (toZ-ofZ w16 (ofInts src i) (record { sfits = c .negative-arg .given })) (lt-of-le-of-lt (le-largest src i) (start .pre .1))
 
 mul-t12 : tie.Need-mul-t12 Inv-loop μ-loop
 mul-t12 c = omega arith
@@ -59,23 +66,21 @@ loop-less c = omega arith
 
 loop-again : tie.Need-loop-again Inv-loop μ-loop
 loop-again c =
-    let h = c .before .before .before .loop in
-    let a = c .before .before .before .before .args in
-    let x = ofInts (now (a .src)) (length (now (a .src)) - 1 - h .i) in
-    let same : toZ w16 (ofZ w16 x) ≡ x = toZ-ofZ w16 x (record { sfits = c .before .negative-arg .given }) in (
-      omega arith,
-      simp length-set (h .inv .1),
-      filled-more (h .i) (λ j. negℤ (ofInts (now (a .src)) (length (now (a .src)) - 1 - j))) (now (a .dst)) (pos 0) (omega arith) (h .inv .2) (toZ-ofZ w16 (c .negative .result) (record { sfits = c .negative .ok }) ∙ c .negative .ensures ∙ ap negℤ same),
-    )
+    let start : Start = search in
+    let turn : Turn = search in
+    let read : tie.After-negative-arg Inv-loop μ-loop = search in
+    let src = now (start .args .src) in
+    filling-more (pos 0) (turn .loop .inv) (omega arith)
+    (toZ-ofZ w16 (c .negative .result) (record { sfits = c .negative .ok }) ∙ c .negative .ensures
+    ∙ ap negℤ (toZ-ofZ w16 (ofInts src (length src - 1 - turn .loop .i)) (record { sfits = read .negative-arg .given })))
 
 same-length : tie.Need-same-length Inv-loop μ-loop
-same-length c = c .before .loop .inv .1
+same-length c = search needs
 
 returns : tie.Need-returns Inv-loop μ-loop
 returns c =
-    let h = c .before .loop in
-    let a = c .before .before .args in
-    filled-all (h .i) (length (now (a .src))) (λ j. negℤ (ofInts (now (a .src)) (length (now (a .src)) - 1 - j))) (now (a .dst)) (omega arith) (omega arith) (omega arith) (h .inv .2)
+    let turn : Turn = search in
+    filling-all (turn .loop .inv) (omega arith) (omega arith)
 
 pub reverse-negated-spec : {M : Type 1} → statement M
 reverse-negated-spec =

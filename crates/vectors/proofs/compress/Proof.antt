@@ -1,23 +1,31 @@
 -- `vectors::compress` meets its contract: after i turns the first i coefficients have lost their low bits.
 -- Assumes nothing.
-use Rattle.bits.proofs.Filling.{filled, filled-none, filled-more, filled-at, filled-all, tabulate-entries, map-tabulate}
-use lib.ListN.{length, getD, length-set}
-use Prim.Native.Nat.{ℕ, _-_, _/_, _^_, _≤_}
+use Rattle.bits.proofs.Filling.{tabulate-entries, map-tabulate, Filling, filling-begun, filling-more, filling-at, filling-all}
+use lib.ListN.{length, getD}
+use Prim.Native.Nat.{ℕ, _-_, _/_, _^_}
 use denote.Ref.{now}
 use native.Mathlib.Omega.{arith}
 use mathlib.Core.List.{map}
-use mathlib.Core.Path.{_≡_, refl, sym, ap, _∙_}
+use mathlib.Core.Path.{refl, sym, ap, _∙_}
+use borrow.Author.Needs.{needs}
 use Rattle.vectors.proofs.compress.Statement.{statement}
 use Rattle.vectors.proofs.compress.Tie as tie
 
 abbrev Inv-loop : tie.InvT-loop
-Inv-loop xs₀ t i₀ xs i = (i ≤ length xs₀) × (length xs ≡ length xs₀) × (xs ≡ filled i (λ j. getD xs₀ j 0 / 2 ^ t) xs₀)
+Inv-loop xs₀ t i₀ xs i = Filling (λ j. getD xs₀ j 0 / 2 ^ t) xs₀ i xs
 
 abbrev μ-loop : tie.MeasureT-loop
 μ-loop xs₀ t i₀ xs i = length xs₀ - i
 
+-- The places of the code that the answers name.
+abbrev Start : Type 0
+Start = tie.Start Inv-loop μ-loop
+
+abbrev Turn : Type 0
+Turn = tie.At-loop Inv-loop μ-loop
+
 loop-holds : tie.Need-loop-holds Inv-loop μ-loop
-loop-holds c = (omega arith, refl, filled-none _ _)
+loop-holds c = filling-begun
 
 mul-xs : tie.Need-mul-xs Inv-loop μ-loop
 mul-xs c = omega arith
@@ -45,24 +53,21 @@ loop-less c = omega arith
 
 loop-again : tie.Need-loop-again Inv-loop μ-loop
 loop-again c =
-    let h = c .before .before .loop in
-    let a = c .before .before .before .args in (
-      omega arith,
-      simp length-set (h .inv .1),
-      filled-more (h .i) (λ j. getD (now (a .xs)) j 0 / 2 ^ a .t) (now (a .xs)) 0 (omega arith) (h .inv .2)
-          (ap (λ (m : ℕ). m / 2 ^ a .t) (filled-at (h .i) (h .i) _ (now (a .xs)) 0 (omega arith) (h .inv .2))),
-    )
+    let start : Start = search in
+    let turn : Turn = search in
+    filling-more 0 (turn .loop .inv) (omega arith) (ap (λ (m : ℕ). m / 2 ^ start .args .t) (filling-at 0 (turn .loop .inv) (omega arith)))
 
 same-length : tie.Need-same-length Inv-loop μ-loop
-same-length c = c .before .loop .inv .1
+same-length c = search needs
 
 returns : tie.Need-returns Inv-loop μ-loop
 returns c =
-    let h = c .before .loop in
-    let a = c .before .before .args in
-    let xs = now (a .xs) in
-    filled-all (h .i) (length xs) _ xs refl (omega arith) (omega arith) (h .inv .2)
-    ∙ sym (map-tabulate (λ m. m / 2 ^ a .t) (length xs) (λ j. getD xs j 0)) ∙ ap (map (λ m. m / 2 ^ a .t)) (tabulate-entries xs 0)
+    let start : Start = search in
+    let turn : Turn = search in
+    let high : ℕ → ℕ = λ m. m / 2 ^ start .args .t in
+    let xs = now (start .args .xs) in
+    filling-all (turn .loop .inv) refl (omega arith)
+    ∙ sym (map-tabulate high (length xs) (λ j. getD xs j 0)) ∙ ap (map high) (tabulate-entries xs 0)
 
 pub compress-spec : {M : Type 1} → statement M
 compress-spec =

@@ -2,26 +2,37 @@
 -- Assumes nothing.
 use lib.IntN.{pos}
 use Rattle.ring.proofs.Modular.{residue-pos}
-use Rattle.bits.proofs.Filling.{filled, filled-none, filled-more, filled-at, filled-all}
 use Rattle.ring.specs.Poly.{residues}
 use Rattle.ring.specs.Integers.{residue}
-use lib.ListN.{length, getD, length-set}
-use Prim.Native.Nat.{ℕ, _*_, _-_, _%_, _^_, _≤_}
-use denote.Ref.{now}
+use lib.ListN.{length, getD}
+use Prim.Native.Nat.{ℕ, _*_, _-_, _%_, _^_}
 use borrow.Author.Needs.{needs}
 use native.Mathlib.Omega.{arith}
-use mathlib.Core.Path.{_≡_, refl, sym, ap, _∙_}
+use mathlib.Core.Path.{refl, sym, ap, _∙_}
+use mathlib.Core.List.{List}
+use Rattle.bits.proofs.Filling.{Filling, filling-begun, filling-more, filling-at, filling-all}
 use Rattle.vectors.proofs.raise.Statement.{statement}
 use Rattle.vectors.proofs.raise.Tie as tie
 
+-- The coefficients multiplied by 2^t.
+abbrev raised : List ℕ → ℕ → ℕ → ℕ
+raised xs t j = residue 65536 (pos (2 ^ t * getD xs j 0))
+
 abbrev Inv-loop : tie.InvT-loop
-Inv-loop xs₀ t i₀ xs i = (i ≤ length xs₀) × (length xs ≡ length xs₀) × (xs ≡ filled i (λ j. residue 65536 (pos (2 ^ t * getD xs₀ j 0))) xs₀)
+Inv-loop xs₀ t i₀ xs i = Filling (raised xs₀ t) xs₀ i xs
 
 abbrev μ-loop : tie.MeasureT-loop
 μ-loop xs₀ t i₀ xs i = length xs₀ - i
 
+-- The places of the code that the answers name.
+abbrev Start : Type 0
+Start = tie.Start Inv-loop μ-loop
+
+abbrev Turn : Type 0
+Turn = tie.At-loop Inv-loop μ-loop
+
 loop-holds : tie.Need-loop-holds Inv-loop μ-loop
-loop-holds c = (omega arith, refl, filled-none _ _)
+loop-holds c = filling-begun
 
 mul-shift : tie.Need-mul-shift Inv-loop μ-loop
 mul-shift c = omega arith
@@ -46,23 +57,20 @@ loop-less c = omega arith
 
 loop-again : tie.Need-loop-again Inv-loop μ-loop
 loop-again c =
-    let h = c .before .before .before .loop in
-    let a = c .before .before .before .before .before .args in (
-      omega arith,
-      simp length-set (h .inv .1),
-      filled-more (h .i) (λ j. residue 65536 (pos (2 ^ a .t * getD (now (a .xs)) j 0))) (now (a .xs)) 0 (omega arith) (h .inv .2)
-          (c .shift .ensures ∙ ap (λ (m : ℕ). 2 ^ a .t * m % 65536) (filled-at (h .i) (h .i) _ (now (a .xs)) 0 (omega arith) (h .inv .2)) ∙ sym (residue-pos 65536 _)),
-    )
+    let start : Start = search in
+    let turn : Turn = search in
+    filling-more 0 (turn .loop .inv) (omega arith)
+    (c .shift .ensures ∙ ap (λ (m : ℕ). 2 ^ start .args .t * m % 65536) (filling-at 0 (turn .loop .inv) (omega arith))
+    ∙ sym (residue-pos 65536 _))
 
 same-length : tie.Need-same-length Inv-loop μ-loop
-same-length c = c .before .loop .inv .1
+same-length c = search needs
 
 returns : tie.Need-returns Inv-loop μ-loop
 unfolding residues
 returns c =
-    let h = c .before .loop in
-    let a = c .before .before .before .args in
-    filled-all (h .i) (length (now (a .xs))) _ (now (a .xs)) refl (omega arith) (omega arith) (h .inv .2)
+    let turn : Turn = search in
+    filling-all (turn .loop .inv) refl (omega arith)
 
 pub raise-spec : {M : Type 1} → statement M
 raise-spec =

@@ -19,7 +19,11 @@ same-length : tie.Need-same-length
 same-length c = search needs
 
 returns : tie.Need-returns
-returns c = c .before .before .centre .ensures ∙ ap (centredWords (c .before .before .before .before .before .before .before .before .before .before .args .c)) (c .before .before .before .before .before .before .unpack .ensures)
+returns c =
+    let start : tie.Start = search in
+    let after-unpack : tie.After-unpack = search in
+    let after-centre : tie.After-centre = search in
+    after-centre .centre .ensures ∙ ap (centredWords (start .args .c)) (after-unpack .unpack .ensures)
 
 pub small-spec : {M : Type 1} → statement M
 small-spec = tie.close (tie.spec unpack-requires centre-requires same-length returns)

@@ -19,26 +19,36 @@ width-requires c κs = search needs
 
 small-requires : tie.Need-small-requires
 small-requires c κs =
-    let pre = c .before .before .before .before .before .before .pre in
-    let p = c .before .before .before .before .before .before .args .p in
-    (rw (c .before .width .ensures) (width-bound p (pre .well)), rw (c .before .width .ensures) (reads p (pre .well) 1 (width p) (pre .sum ∙ sym (one-mul (p .n))) (pre .errors-there)))
+    let start : tie.Start = search in
+    let after-width : tie.After-width = search in
+    let pre = start .pre in
+    let p = start .args .p in (
+      rw (after-width .width .ensures) (width-bound p (pre .well)),
+      rw (after-width .width .ensures) (reads p (pre .well) 1 (width p) (pre .sum ∙ sym (one-mul (p .n))) (pre .errors-there)),
+    )
 
 dot-add-requires : tie.Need-dot-add-requires
 dot-add-requires c κs =
-    let pre = c .before .before .before .before .before .before .before .before .before .before .pre in
-    vectors-of _ (pre .well) (c .before .before .before .small .kept .1 .1 .1 .0 ∙ pre .sum) (pre .first) (pre .second)
+    let start : tie.Start = search in
+    let after-small : tie.After-small = search in
+    let pre = start .pre in
+    vectors-of _ (pre .well) (after-small .small .kept .1 .1 .1 .0 ∙ pre .sum) (pre .first) (pre .second)
 
 same-length : tie.Need-same-length
 same-length c = search needs
 
 returns : tie.Need-returns
 returns c =
-    let pre = c .before .before .before .before .before .before .before .before .before .before .before .before .before .pre in
-    let p = c .before .before .before .before .before .before .before .before .before .before .before .before .before .args .p in
-    let errors = now (c .before .before .before .before .before .before .before .before .before .before .before .before .before .args .errors) in
-    c .before .before .dot-add .ensures
+    let start : tie.Start = search in
+    let after-width : tie.After-width = search in
+    let after-small : tie.After-small = search in
+    let after-dot-add : tie.After-dot-add = search in
+    let p = start .args .p in
+    let errors = now (start .args .errors) in
+    after-dot-add .dot-add .ensures
     ∙ sum-part p errors _ _ _
-    (c .before .before .before .before .before .before .small .ensures ∙ ap₂ (λ (w n : ℕ). centredWords (p .p) (unpack w n errors)) (c .before .before .before .before .before .before .before .before .width .ensures) (pre .sum) ∙ small-first (p .n) (width p) (p .p) errors)
+    (after-small .small .ensures ∙ ap₂ (λ (w n : ℕ). centredWords (p .p) (unpack w n errors)) (after-width .width .ensures)
+    (start .pre .sum) ∙ small-first (p .n) (width p) (p .p) errors)
 
 pub sum-part-spec : {M : Type 1} → statement M
 sum-part-spec =

@@ -18,7 +18,10 @@ same-length c = search needs
 
 returns : tie.Need-returns
 unfolding digest
-returns c = c .before .before .shake-joined .ensures ∙ ap (shake _ _) (c .before .before .before .before .before .before .before .pre .1)
+returns c =
+    let start : tie.Start = search in
+    let after-shake-joined : tie.After-shake-joined = search in
+    after-shake-joined .shake-joined .ensures ∙ ap (shake _ _) (start .pre .1)
 
 pub digest-spec : {M : Type 1} → statement M
 digest-spec =

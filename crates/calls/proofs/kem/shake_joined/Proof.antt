@@ -21,13 +21,13 @@ sound-new : (c : tie.After-new) → Sound (c .new .result)
 sound-new c = subst Sound (sym (c .new .ensures)) (sound-fresh _ (omega arith) (omega arith))
 
 sound-begun : (c : tie.After-absorb) → Sound (c .absorb .result)
-sound-begun c = subst Sound (sym (c .absorb .ensures)) (sound-absorbed _ _ (sound-new (c .before)))
+sound-begun c = subst Sound (sym (c .absorb .ensures)) (sound-absorbed _ _ (sound-new (search)))
 
 sound-taken : (c : tie.After-absorb2) → Sound (c .absorb2 .result)
-sound-taken c = subst Sound (sym (c .absorb2 .ensures)) (sound-absorbed _ _ (sound-begun (c .before)))
+sound-taken c = subst Sound (sym (c .absorb2 .ensures)) (sound-absorbed _ _ (sound-begun (search)))
 
 sound-complete : (c : tie.After-finish) → Sound (c .finish .result)
-sound-complete c = subst Sound (sym (c .finish .ensures)) (sound-finished _ (sound-taken (c .before)))
+sound-complete c = subst Sound (sym (c .finish .ensures)) (sound-finished _ (sound-taken (search)))
 
 absorb-requires : tie.Need-absorb-requires
 absorb-requires c κs = sound-new c
@@ -39,7 +39,7 @@ finish-requires : tie.Need-finish-requires
 finish-requires c κs = sound-taken c
 
 squeeze-requires : tie.Need-squeeze-requires
-squeeze-requires c κs = sound-complete (c .before)
+squeeze-requires c κs = sound-complete (search)
 
 same-length : tie.Need-same-length
 same-length c = search needs
@@ -53,12 +53,13 @@ squeezed-joined r first second n pos fits e1 e2 e3 e4 e5 =
 
 returns : tie.Need-returns
 returns c =
-    let done = c .before .before in
-    let complete = done .before .before in
-    let taken = complete .before in
-    let begun = taken .before in
-    let start = begun .before .before .before .before .before in
-    squeezed-joined _ _ _ _ (start .pre .0) (start .pre .1) (begun .before .new .ensures) (begun .absorb .ensures) (taken .absorb2 .ensures)
+    let start : tie.Start = search in
+    let after-new : tie.After-new = search in
+    let begun : tie.After-absorb = search in
+    let taken : tie.After-absorb2 = search in
+    let complete : tie.After-finish = search in
+    let done : tie.After-squeeze = search in
+    squeezed-joined _ _ _ _ (start .pre .0) (start .pre .1) (after-new .new .ensures) (begun .absorb .ensures) (taken .absorb2 .ensures)
     (complete .finish .ensures) (done .squeeze .ensures .bytes)
 
 pub shake-joined-spec : {M : Type 1} → statement M

@@ -15,7 +15,10 @@ same-length c = search needs
 
 returns : tie.Need-returns
 unfolding sharedKey
-returns c = c .before .before .shake-joined .ensures ∙ ap (shake _ _) (c .before .before .before .before .before .before .before .pre .1)
+returns c =
+    let start : tie.Start = search in
+    let after-shake-joined : tie.After-shake-joined = search in
+    after-shake-joined .shake-joined .ensures ∙ ap (shake _ _) (start .pre .1)
 
 pub shared-key-spec : {M : Type 1} → statement M
 shared-key-spec = tie.close (tie.spec shake-joined-requires same-length returns)

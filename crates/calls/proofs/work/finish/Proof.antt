@@ -11,7 +11,9 @@ is-set-requires : tie.Need-is-set-requires
 is-set-requires c κs = search needs
 
 returns : tie.Need-returns
-returns c = no-set _ _ _ (sym (c .before .is-set .ensures) ∙ not-true _ (c .if1 .taken))
+returns c =
+    let after-is-set : tie.After-is-set = search in
+    no-set _ _ _ (sym (after-is-set .is-set .ensures) ∙ not-true _ (c .if1 .taken))
 
 returns-2 : tie.Need-returns-2
 returns-2 c = short-work _ _ _ (c .if2 .taken)
@@ -24,11 +26,12 @@ same-length c = search needs
 
 returns-3 : tie.Need-returns-3
 returns-3 c =
-    let wiped = c .before .before in
-    let enough = wiped .before .before in
-    let there = enough .before in
+    let after-is-set : tie.After-is-set = search in
+    let there : tie.Else1 = search in
+    let enough : tie.Else2 = search in
+    let wiped : tie.After-wipe = search in
     wiped .wipe .ensures
-    ∙ work-wiped _ _ _ (sym (there .before .is-set .ensures) ∙ not-false _ (there .if1 .left)) (enough .if2 .left)
+    ∙ work-wiped _ _ _ (sym (after-is-set .is-set .ensures) ∙ not-false _ (there .if1 .left)) (enough .if2 .left)
 
 pub finish-spec : {M : Type 1} → statement M
 finish-spec =

@@ -14,15 +14,25 @@ use borrow.Author.Needs.{needs}
 use Rattle.decryption.proofs.recover.coins_from.Statement.{statement}
 use Rattle.decryption.proofs.recover.coins_from.Tie as tie
 
+-- From a place back to one that is far before it.
+abbrev start-of-width : tie.After-width → tie.Start
+start-of-width c = search
+
+ruleset places = (start-of-width)
+
 width-requires : tie.Need-width-requires
 width-requires c κs = search needs
 
 small-requires : tie.Need-small-requires
 small-requires c κs =
-    let p = c .before .before .before .before .before .before .before .before .before .args .p in
-    let pre = c .before .before .before .before .before .before .before .before .before .pre in
-    let W = pre .room .well in
-    (rw (c .before .width .ensures) (width-bound p W), rw (c .before .width .ensures) (reads p W (p .l) (width p) (pre .room .secret-long) (pre .secret-there)))
+    let start : tie.Start = search in
+    let after-width : tie.After-width = search in
+    let p = start .args .p in
+    let pre = start .pre in
+    let W = pre .room .well in (
+      rw (after-width .width .ensures) (width-bound p W),
+      rw (after-width .width .ensures) (reads p W (p .l) (width p) (pre .room .secret-long) (pre .secret-there)),
+    )
 
 noisy-value-requires : tie.Need-noisy-value-requires
 noisy-value-requires c κs = search needs
@@ -50,15 +60,23 @@ same-length-5 c = search needs
 
 returns : tie.Need-returns
 returns c =
-    let a = c .before .before .before .before .before .before .before .before .before .before .before .before .before .before .before .before .before .before .before .before .before .before .before .before .before .before .before .before .before .before .before .before .args in
+    let after-pack : tie.After-pack = search in
+    let after-round : tie.After-round = search in
+    let after-noisy-value : tie.After-noisy-value = search in
+    let after-small : tie.After-small = search in
+    let after-width : tie.After-width = search in
+    let start : tie.Start = search places in
+    let a = start .args in
     let p = a .p in
-    let pre = c .before .before .before .before .before .before .before .before .before .before .before .before .before .before .before .before .before .before .before .before .before .before .before .before .before .before .before .before .before .before .before .before .pre in
+    let pre = start .pre in
     let bytes = now (a .bytes) in
-    c .before .before .pack .ensures ∙ ap (λ (l : List ℕ). pack 1 (lowBits 1 l)) (c .before .before .before .before .before .before .before .round .ensures)
-    ∙ coins-rounded p (pre .room .well) bytes (now (a .ct)) (c .before .before .before .before .before .before .before .before .before .before .before .before .before .before .before .before .before .before .before .before .before .before .small .last .1 .1 .1 .0) (c .before .before .before .before .before .before .before .before .before .before .before .before .before .before .before .noisy-value .last .1 .1 .1 .1 .0)
-    (c .before .before .before .before .before .before .before .before .before .before .before .before .before .before .before .before .before .before .before .before .before .before .small .ensures ∙ ap₂ (λ (w m : ℕ). centredWords (p .p) (unpack w m bytes)) (c .before .before .before .before .before .before .before .before .before .before .before .before .before .before .before .before .before .before .before .before .before .before .before .before .width .ensures) (pre .room .secret-long)
+    after-pack .pack .ensures ∙ ap (λ (l : List ℕ). pack 1 (lowBits 1 l)) (after-round .round .ensures)
+    ∙ coins-rounded p (pre .room .well) bytes (now (a .ct)) (after-small .small .last .1 .1 .1 .0)
+    (after-noisy-value .noisy-value .last .1 .1 .1 .1 .0)
+    (after-small .small .ensures ∙ ap₂ (λ (w m : ℕ). centredWords (p .p) (unpack w m bytes)) (after-width .width .ensures)
+    (pre .room .secret-long)
     ∙ small-vector (p .l) (p .n) (width p) (p .p) bytes)
-    (c .before .before .before .before .before .before .before .before .before .before .before .before .before .before .before .noisy-value .ensures)
+    (after-noisy-value .noisy-value .ensures)
 
 pub coins-from-spec : {M : Type 1} → statement M
 coins-from-spec =

@@ -17,6 +17,13 @@ Inv-loop xs₀ k i₀ xs i = (i ≤ length xs₀) × (length xs ≡ length xs₀
 abbrev μ-loop : tie.MeasureT-loop
 μ-loop xs₀ k i₀ xs i = length xs₀ - i
 
+-- The places of the code that the answers name.
+abbrev Start : Type 0
+Start = tie.Start Inv-loop μ-loop
+
+abbrev Turn : Type 0
+Turn = tie.At-loop Inv-loop μ-loop
+
 loop-holds : tie.Need-loop-holds Inv-loop μ-loop
 loop-holds c = (omega arith, refl, filled-none _ _)
 
@@ -27,7 +34,7 @@ slice-read-rounded : tie.Need-slice-read-rounded Inv-loop μ-loop
 slice-read-rounded c = omega arith
 
 rounded-requires : tie.Need-rounded-requires Inv-loop μ-loop
-rounded-requires c κs = c .before .before .before .before .pre
+rounded-requires c κs = let start : Start = search in start .pre
 
 mul-xs : tie.Need-mul-xs Inv-loop μ-loop
 mul-xs c = omega arith
@@ -43,8 +50,10 @@ loop-less c = omega arith
 
 loop-again : tie.Need-loop-again Inv-loop μ-loop
 loop-again c =
-    let h = c .before .before .before .loop in
-    let a = c .before .before .before .before .before .args in (
+    let start : Start = search in
+    let turn : Turn = search in
+    let h = turn .loop in
+    let a = start .args in (
       omega arith,
       simp length-set (h .inv .1),
       filled-more (h .i) (λ j. roundedBit (2 ^ a .k) (getD (now (a .xs)) j 0)) (now (a .xs)) 0 (omega arith) (h .inv .2)
@@ -52,12 +61,14 @@ loop-again c =
     )
 
 same-length : tie.Need-same-length Inv-loop μ-loop
-same-length c = c .before .loop .inv .1
+same-length c = let turn : Turn = search in turn .loop .inv .1
 
 returns : tie.Need-returns Inv-loop μ-loop
 returns c =
-    let h = c .before .loop in
-    let a = c .before .before .before .args in
+    let start : Start = search in
+    let turn : Turn = search in
+    let h = turn .loop in
+    let a = start .args in
     let xs = now (a .xs) in
     filled-all (h .i) (length xs) _ xs refl (omega arith) (omega arith) (h .inv .2)
     ∙ sym (map-tabulate (roundedBit (2 ^ a .k)) (length xs) (λ j. getD xs j 0)) ∙ ap (map (roundedBit (2 ^ a .k))) (tabulate-entries xs 0)

@@ -27,7 +27,9 @@ cast-result-2 : tie.Need-cast-result-2
 cast-result-2 c = search needs
 
 returns : tie.Need-returns
-returns c = shift-rounds (c .before .args .k) (c .before .args .v) (c .before .pre .0) (c .power .ensures)
+returns c =
+    let start : tie.Start = search in
+    shift-rounds (start .args .k) (start .args .v) (start .pre .0) (c .power .ensures)
 
 pub rounded-spec : {M : Type 1} → statement M
 rounded-spec =

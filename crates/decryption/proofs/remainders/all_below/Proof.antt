@@ -38,8 +38,10 @@ loop-less c = omega arith
 
 loop-again : tie.Need-loop-again Inv-loop μ-loop
 loop-again c =
-    let h = c .before .before .loop in
-    let a = c .before .before .before .args in
+    let start : tie.Start Inv-loop μ-loop = search in
+    let turn : tie.At-loop Inv-loop μ-loop = search in
+    let h = turn .loop in
+    let a = start .args in
     let xs = now (a .xs) in (
       omega arith,
       rw add-one
@@ -48,8 +50,10 @@ loop-again c =
 
 returns : tie.Need-returns Inv-loop μ-loop
 returns c =
-    let h = c .before .loop in
-    let a = c .before .before .args in
+    let start : tie.Start Inv-loop μ-loop = search in
+    let turn : tie.At-loop Inv-loop μ-loop = search in
+    let h = turn .loop in
+    let a = start .args in
     h .inv .1 ∙ ap (allBelow (a .bound)) (take-all (h .i) (now (a .xs)) (omega arith))
 
 pub all-below-spec : {M : Type 1} → statement M

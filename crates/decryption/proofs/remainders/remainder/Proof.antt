@@ -14,16 +14,27 @@ use borrow.Author.Needs.{needs}
 use Rattle.decryption.proofs.remainders.remainder.Statement.{statement}
 use Rattle.decryption.proofs.remainders.remainder.Tie as tie
 
+-- From a place back to one that is far before it.
+abbrev start-of-unpack : tie.After-unpack → tie.Start
+start-of-unpack c = search
+
+abbrev unpack-of-unpack2 : tie.After-unpack2 → tie.After-unpack
+unpack-of-unpack2 c = search
+
+ruleset places = (start-of-unpack, unpack-of-unpack2)
+
 unpack-requires : tie.Need-unpack-requires
 unpack-requires c κs =
-    let p = c .before .before .before .before .before .before .args .p in
-    let pre = c .before .before .before .before .before .before .pre in
+    let start : tie.Start = search in
+    let p = start .args .p in
+    let pre = start .pre in
     (pre .well .word, reads p (pre .well) 1 (p .k) (pre .first ∙ sym (one-mul (p .n))) (pre .cipher-there))
 
 unpack-requires-2 : tie.Need-unpack-requires-2
 unpack-requires-2 c κs =
-    let p = c .before .before .before .before .before .before .before .before .before .before .args .p in
-    let pre = c .before .before .before .before .before .before .before .before .before .before .pre in
+    let start : tie.Start = search in
+    let p = start .args .p in
+    let pre = start .pre in
     (pre .well .word, reads p (pre .well) 1 (p .k) (pre .second ∙ sym (one-mul (p .n))) (pre .made-there))
 
 subtract-requires : tie.Need-subtract-requires
@@ -34,11 +45,15 @@ width-requires c κs = search needs
 
 unpack-requires-3 : tie.Need-unpack-requires-3
 unpack-requires-3 c κs =
-    let p = c .before .before .before .before .before .before .before .before .before .before .before .before .before .before .before .before .before .before .before .before .args .p in
-    let pre = c .before .before .before .before .before .before .before .before .before .before .before .before .before .before .before .before .before .before .before .before .pre in
+    let start : tie.Start = search in
+    let after-unpack2 : tie.After-unpack2 = search in
+    let after-width : tie.After-width = search in
+    let p = start .args .p in
+    let pre = start .pre in
     let W = pre .well in (
-      rw (c .before .width .ensures) (width-bound p W),
-      rw (c .before .width .ensures) (reads p W 1 (width p) (c .before .before .before .before .before .before .before .before .before .unpack2 .kept .1 .1 .0 ∙ pre .second ∙ sym (one-mul (p .n))) (pre .mask-there)),
+      rw (after-width .width .ensures) (width-bound p W),
+      rw (after-width .width .ensures)
+          (reads p W 1 (width p) (after-unpack2 .unpack2 .kept .1 .1 .0 ∙ pre .second ∙ sym (one-mul (p .n))) (pre .mask-there)),
     )
 
 add-requires : tie.Need-add-requires
@@ -55,17 +70,26 @@ same-length-2 c = search needs
 
 returns : tie.Need-returns
 returns c =
-    let a = c .before .before .before .before .before .before .before .before .before .before .before .before .before .before .before .before .before .before .before .before .before .before .before .before .before .before .before .before .before .before .before .before .args in
+    let after-reduce : tie.After-reduce = search in
+    let after-add : tie.After-add = search in
+    let after-unpack3 : tie.After-unpack3 = search in
+    let after-width : tie.After-width = search in
+    let after-subtract : tie.After-subtract = search in
+    let after-unpack2 : tie.After-unpack2 = search in
+    let after-unpack : tie.After-unpack = search places in
+    let start : tie.Start = search places in
+    let a = start .args in
     let p = a .p in
-    let pre = c .before .before .before .before .before .before .before .before .before .before .before .before .before .before .before .before .before .before .before .before .before .before .before .before .before .before .before .before .before .before .before .before .pre in
-    c .before .before .reduce .ensures
+    let pre = start .pre in
+    after-reduce .reduce .ensures
     ∙ ap (lowBits (p .k))
-    (c .before .before .before .before .before .before .add .ensures
+    (after-add .add .ensures
     ∙ ap₂ added
-    (c .before .before .before .before .before .before .before .before .before .before .before .before .before .before .before .before .subtract .ensures
-    ∙ ap₂ subtracted (c .before .before .before .before .before .before .before .before .before .before .before .before .before .before .before .before .before .before .before .before .before .before .before .before .before .unpack .ensures ∙ ap (λ (m : ℕ). unpack (p .k) m (now (a .ct))) (pre .first))
-    (c .before .before .before .before .before .before .before .before .before .before .before .before .before .before .before .before .before .before .before .before .before .unpack2 .ensures ∙ ap (λ (m : ℕ). unpack (p .k) m (now (a .made))) (pre .second)))
-    (c .before .before .before .before .before .before .before .before .before .before .before .unpack3 .ensures ∙ ap₂ (λ (w m : ℕ). unpack w m (now (a .mask))) (c .before .before .before .before .before .before .before .before .before .before .before .before .before .width .ensures) (c .before .before .before .before .before .before .before .before .before .before .before .before .before .before .before .before .before .before .before .before .before .unpack2 .kept .1 .1 .0 ∙ pre .second)))
+    (after-subtract .subtract .ensures
+    ∙ ap₂ subtracted (after-unpack .unpack .ensures ∙ ap (λ (m : ℕ). unpack (p .k) m (now (a .ct))) (pre .first))
+    (after-unpack2 .unpack2 .ensures ∙ ap (λ (m : ℕ). unpack (p .k) m (now (a .made))) (pre .second)))
+    (after-unpack3 .unpack3 .ensures ∙ ap₂ (λ (w m : ℕ). unpack w m (now (a .mask))) (after-width .width .ensures)
+    (after-unpack2 .unpack2 .kept .1 .1 .0 ∙ pre .second)))
     ∙ left-first p (pre .well) (now (a .ct)) (now (a .made)) (now (a .mask))
 
 pub remainder-spec : {M : Type 1} → statement M

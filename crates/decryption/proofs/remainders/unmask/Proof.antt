@@ -57,61 +57,113 @@ array-borrow-prefix-u : tie.Need-array-borrow-prefix-u
 array-borrow-prefix-u c = search needs
 
 -- Where the mask is, and the part of the work area that has it.
-at-is : (c : tie.After-padded) → c .before .before .matrix .result + c .before .low .result ≡ matrixLength (c .before .before .before .before .before .before .args .p) + lowLength (c .before .before .before .before .before .before .args .p)
-at-is c = ap₂ _+_ (c .before .before .matrix .ensures .0) (c .before .low .ensures .0)
+at-is : (c : tie.After-padded) →
+    let start : tie.Start = search in
+    let after-matrix : tie.After-matrix = search in
+    let after-low : tie.After-low = search in
+    after-matrix .matrix .result + after-low .low .result ≡ matrixLength (start .args .p) + lowLength (start .args .p)
+at-is c =
+    let after-matrix : tie.After-matrix = search in
+    let after-low : tie.After-low = search in
+    ap₂ _+_ (after-matrix .matrix .ensures .0) (after-low .low .ensures .0)
 
-place : (c : tie.After-padded) → c .before .before .matrix .result + c .before .low .result + c .padded .result ≤ length (now (c .before .before .before .before .before .before .args .work))
-place c = omega (arith, c .before .before .matrix .ensures .0, c .before .low .ensures .0, c .padded .ensures .0, c .before .before .before .before .before .before .pre .work-long)
+place : (c : tie.After-padded) →
+    let start : tie.Start = search in
+    let after-matrix : tie.After-matrix = search in
+    let after-low : tie.After-low = search in
+    after-matrix .matrix .result + after-low .low .result + c .padded .result ≤ length (now (start .args .work))
+place c =
+    let start : tie.Start = search in
+    let after-matrix : tie.After-matrix = search in
+    let after-low : tie.After-low = search in
+    omega (arith, after-matrix .matrix .ensures .0, after-low .low .ensures .0, c .padded .ensures .0, start .pre .work-long)
 
-mask-part : (c : tie.After-padded) → take (c .before .before .matrix .result + c .before .low .result + c .padded .result - (c .before .before .matrix .result + c .before .low .result)) (drop (c .before .before .matrix .result + c .before .low .result) (now (c .before .before .before .before .before .before .args .work)))
-    ≡ take (paddedLength (c .before .before .before .before .before .before .args .p)) (drop (matrixLength (c .before .before .before .before .before .before .args .p) + lowLength (c .before .before .before .before .before .before .args .p)) (now (c .before .before .before .before .before .before .args .work)))
-mask-part c = ap₂ (λ (i j : ℕ). take i (drop j (now (c .before .before .before .before .before .before .args .work)))) (add-sub-cancel-left (c .before .before .matrix .result + c .before .low .result) (c .padded .result) ∙ c .padded .ensures .0) (at-is c)
+mask-part : (c : tie.After-padded) →
+    let start : tie.Start = search in
+    let after-matrix : tie.After-matrix = search in
+    let after-low : tie.After-low = search in
+    take (after-matrix .matrix .result + after-low .low .result +
+    c .padded .result - (after-matrix .matrix .result + after-low .low .result))
+    (drop (after-matrix .matrix .result + after-low .low .result) (now (start .args .work)))
+    ≡ take (paddedLength (start .args .p)) (drop (matrixLength (start .args .p) + lowLength (start .args .p)) (now (start .args .work)))
+mask-part c =
+    let start : tie.Start = search in
+    let after-matrix : tie.After-matrix = search in
+    let after-low : tie.After-low = search in
+    ap₂ (λ (i j : ℕ). take i (drop j (now (start .args .work))))
+    (add-sub-cancel-left (after-matrix .matrix .result + after-low .low .result) (c .padded .result) ∙ c .padded .ensures .0) (at-is c)
 
 -- The packed remainders.
-fresh : (c : tie.After-bytes) → length (take (c .before .before .before .padded .result) (c .bytes .result)) ≡ c .before .before .before .padded .result
+fresh : (c : tie.After-bytes) →
+    let after-padded : tie.After-padded = search in
+    length (take (after-padded .padded .result) (c .bytes .result)) ≡ after-padded .padded .result
 fresh c =
+    let start : tie.Start = search in
+    let after-padded : tie.After-padded = search in
     let bytes : length (c .bytes .result) ≡ 1024 = search needs in
-    simp length-take (omega (arith, c .before .before .before .padded .ensures .0, c .before .before .before .before .before .before .before .before .before .pre .well .padded-fits))
+    simp length-take (omega (arith, after-padded .padded .ensures .0, start .pre .well .padded-fits))
 
-packed-long : (c : tie.After-remainders) → length (c .remainders .last .1 .1 .1 .1 .1 .1 .0) ≡ c .before .before .before .before .before .before .before .before .before .padded .result
-packed-long c = c .remainders .kept .1 .1 .1 .1 .1 .1 .0 ∙ fresh (c .before .before .before .before .before .before)
+packed-long : (c : tie.After-remainders) →
+    let after-padded : tie.After-padded = search in
+    length (c .remainders .last .1 .1 .1 .1 .1 .1 .0) ≡ after-padded .padded .result
+packed-long c = c .remainders .kept .1 .1 .1 .1 .1 .1 .0 ∙ fresh (search)
 
-packed-is : (c : tie.After-remainders) → take (c .before .before .before .before .before .before .before .before .before .padded .result) (c .remainders .last .1 .1 .1 .1 .1 .1 .0 ++ drop (c .before .before .before .before .before .before .before .before .before .padded .result) (c .before .before .before .before .before .before .bytes .result)) ≡ c .remainders .last .1 .1 .1 .1 .1 .1 .0
-packed-is c = take-at (c .remainders .last .1 .1 .1 .1 .1 .1 .0) (drop (c .before .before .before .before .before .before .before .before .before .padded .result) (c .before .before .before .before .before .before .bytes .result)) (c .before .before .before .before .before .before .before .before .before .padded .result) (packed-long c)
+packed-is : (c : tie.After-remainders) →
+    let after-padded : tie.After-padded = search in
+    let after-bytes : tie.After-bytes = search in
+    take (after-padded .padded .result)
+    (c .remainders .last .1 .1 .1 .1 .1 .1 .0 ++ drop (after-padded .padded .result) (after-bytes .bytes .result)) ≡
+    c .remainders .last .1 .1 .1 .1 .1 .1 .0
+packed-is c =
+    let after-padded : tie.After-padded = search in
+    let after-bytes : tie.After-bytes = search in
+    take-at (c .remainders .last .1 .1 .1 .1 .1 .1 .0) (drop (after-padded .padded .result) (after-bytes .bytes .result))
+    (after-padded .padded .result) (packed-long c)
 
 slice-aggregate-remainders : tie.Need-slice-aggregate-remainders
 slice-aggregate-remainders c =
-    let zeros : length (c .before .before .before .before .before .polynomial .result) ≡ 512 = search needs in
-    simp length-take (omega (arith, c .before .before .before .before .before .before .before .before .before .before .before .before .pre .well .short))
+    let start : tie.Start = search in
+    let after-polynomial : tie.After-polynomial = search in
+    let zeros : length (after-polynomial .polynomial .result) ≡ 512 = search needs in
+    simp length-take (omega (arith, start .pre .well .short))
 
 array-borrow-prefix-t : tie.Need-array-borrow-prefix-t
 array-borrow-prefix-t c = search needs
 
 slice-aggregate-remainders-2 : tie.Need-slice-aggregate-remainders-2
 slice-aggregate-remainders-2 c =
-    let zeros : length (c .before .before .before .before .before .polynomial2 .result) ≡ 512 = search needs in
-    simp length-take (omega (arith, c .before .before .before .before .before .before .before .before .before .before .before .before .before .pre .well .short))
+    let start : tie.Start = search in
+    let after-polynomial2 : tie.After-polynomial2 = search in
+    let zeros : length (after-polynomial2 .polynomial2 .result) ≡ 512 = search needs in
+    simp length-take (omega (arith, start .pre .well .short))
 
 array-borrow-prefix-packed : tie.Need-array-borrow-prefix-packed
 array-borrow-prefix-packed c = search needs
 
 slice-aggregate-remainders-3 : tie.Need-slice-aggregate-remainders-3
-slice-aggregate-remainders-3 c = sym (fresh (c .before .before .before .before .before))
+slice-aggregate-remainders-3 c = sym (fresh (search))
 
 remainders-requires : tie.Need-remainders-requires
 remainders-requires c κs =
-    let pre = c .before .before .before .before .before .before .before .before .before .before .before .before .before .before .pre in
+    let start : tie.Start = search in
+    let after-matrix : tie.After-matrix = search in
+    let after-low : tie.After-low = search in
+    let after-padded : tie.After-padded = search in
+    let after-polynomial : tie.After-polynomial = search in
+    let after-polynomial2 : tie.After-polynomial2 = search in
+    let pre = start .pre in
     let W = pre .well in
-    let zeros : length (c .before .before .before .before .before .before .before .polynomial .result) ≡ 512 = search needs in
-    let zeros2 : length (c .before .before .before .before .before .before .polynomial2 .result) ≡ 512 = search needs in
+    let zeros : length (after-polynomial .polynomial .result) ≡ 512 = search needs in
+    let zeros2 : length (after-polynomial2 .polynomial2 .result) ≡ 512 = search needs in
     record {
       well = W;
       cipher-long = pre .cipher-long;
       made-long = pre .made-long;
-      mask-long = part-length (c .before .before .before .before .before .before .before .before .before .before .matrix .result + c .before .before .before .before .before .before .before .before .before .low .result) (c .before .before .before .before .before .before .before .before .padded .result) (now (c .before .before .before .before .before .before .before .before .before .before .before .before .before .before .args .work)) (place (c .before .before .before .before .before .before .before .before)) ∙ c .before .before .before .before .before .before .before .before .padded .ensures .0;
+      mask-long = part-length (after-matrix .matrix .result + after-low .low .result) (after-padded .padded .result)
+          (now (start .args .work)) (place after-padded) ∙ after-padded .padded .ensures .0;
       first = simp length-take (omega (arith, W .short));
       second = simp length-take (omega (arith, W .short));
-      packed-long = fresh (c .before .before .before .before .before) ∙ c .before .before .before .before .before .before .before .before .padded .ensures .0;
+      packed-long = fresh (search) ∙ after-padded .padded .ensures .0;
     }
 
 sub-xor-into : tie.Need-sub-xor-into
@@ -125,32 +177,74 @@ part-xor-into-end c = search needs
 
 array-share-prefix-packed : tie.Need-array-share-prefix-packed
 array-share-prefix-packed c =
-    let bytes : length (c .before .before .before .before .before .before .before .before .before .before .bytes .result) ≡ 1024 = search needs in
-    let fits : c .before .before .before .before .before .before .before .before .before .before .before .before .before .padded .result ≤ 1024 = omega (arith, c .before .before .before .before .before .before .before .before .before .before .before .before .before .padded .ensures .0, c .before .before .before .before .before .before .before .before .before .before .before .before .before .before .before .before .before .before .before .pre .well .padded-fits) in
-    omega (arith, begun-length (c .before .before .before .before .before .before .before .before .before .before .before .before .before .padded .result) (c .before .before .before .before .remainders .last .1 .1 .1 .1 .1 .1 .0) (c .before .before .before .before .before .before .before .before .before .before .bytes .result) (packed-long (c .before .before .before .before)) bytes fits)
+    let start : tie.Start = search in
+    let after-padded : tie.After-padded = search in
+    let after-bytes : tie.After-bytes = search in
+    let after-remainders : tie.After-remainders = search in
+    let bytes : length (after-bytes .bytes .result) ≡ 1024 = search needs in
+    let fits : after-padded .padded .result ≤ 1024 = omega (arith, after-padded .padded .ensures .0, start .pre .well .padded-fits) in
+    omega (
+      arith,
+      begun-length (after-padded .padded .result) (after-remainders .remainders .last .1 .1 .1 .1 .1 .1 .0)
+          (after-bytes .bytes .result) (packed-long after-remainders) bytes fits,
+    )
 
 slice-aggregate-xor-into : tie.Need-slice-aggregate-xor-into
-slice-aggregate-xor-into c = sym (ap length (packed-is (c .before .before .before .before .before)) ∙ packed-long (c .before .before .before .before .before))
+slice-aggregate-xor-into c =
+    let after-remainders : tie.After-remainders = search in
+    sym (ap length (packed-is after-remainders) ∙ packed-long after-remainders)
 
 xor-into-requires : tie.Need-xor-into-requires
-xor-into-requires c κs = rw (packed-is (c .before .before .before .before .before)) (omega (arith, packed-long (c .before .before .before .before .before), part-length (c .before .before .before .before .before .before .before .before .before .before .before .before .before .before .before .before .matrix .result + c .before .before .before .before .before .before .before .before .before .before .before .before .before .before .before .low .result) (c .before .before .before .before .before .before .before .before .before .before .before .before .before .before .padded .result) (now (c .before .before .before .before .before .before .before .before .before .before .before .before .before .before .before .before .before .before .before .before .args .work)) (place (c .before .before .before .before .before .before .before .before .before .before .before .before .before .before))))
+xor-into-requires c κs =
+    rw (packed-is after-remainders)
+    (omega (
+      arith,
+      packed-long after-remainders,
+      part-length (after-matrix .matrix .result + after-low .low .result) (after-padded .padded .result) (now (start .args .work))
+          (place after-padded),
+    ))
+  where
+    start : tie.Start
+    start = search
+
+    after-matrix : tie.After-matrix
+    after-matrix = search
+
+    after-low : tie.After-low
+    after-low = search
+
+    after-padded : tie.After-padded
+    after-padded = search
+
+    after-remainders : tie.After-remainders
+    after-remainders = search
 
 same-length : tie.Need-same-length
 same-length c = search needs
 
 returns : tie.Need-returns
 returns c =
-    let a = c .before .before .before .before .before .before .before .before .before .before .before .before .before .before .before .before .before .before .before .before .before .before .before .args in
+    let after-xor-into : tie.After-xor-into = search in
+    let after-remainders : tie.After-remainders = search in
+    let after-padded : tie.After-padded = search in
+    let after-low : tie.After-low = search in
+    let after-matrix : tie.After-matrix = search in
+    let start : tie.Start = search in
+    let a = start .args in
     let p = a .p in
-    let at : ℕ = c .before .before .before .before .before .before .before .before .before .before .before .before .before .before .before .before .before .before .before .matrix .result + c .before .before .before .before .before .before .before .before .before .before .before .before .before .before .before .before .before .before .low .result in
-    let k : ℕ = c .before .before .before .before .before .before .before .before .before .before .before .before .before .before .before .before .before .padded .result in
-    let ys : List ℕ = c .before .before .xor-into .last .0 in
+    let at : ℕ = after-matrix .matrix .result + after-low .low .result in
+    let k : ℕ = after-padded .padded .result in
+    let ys : List ℕ = after-xor-into .xor-into .last .0 in
     let work = now (a .work) in
-    let long : length ys ≡ k = c .before .before .xor-into .kept .0 ∙ part-length at k work (place (c .before .before .before .before .before .before .before .before .before .before .before .before .before .before .before .before .before)) in
-    let all : List ℕ → List ℕ = λ m. joined (p .l + 1) (λ j. pack (width p) (lowBits (width p) (leftOver p (now (a .ct)) (now (a .made)) m j))) in (
-      c .before .before .before .before .before .before .before .before .remainders .ensures .0 ∙ ap (λ (m : List ℕ). errorsFit (p .p) (joined (p .l + 1) (leftOver p (now (a .ct)) (now (a .made)) m))) (mask-part (c .before .before .before .before .before .before .before .before .before .before .before .before .before .before .before .before .before)),
-      rw (sym (at-is (c .before .before .before .before .before .before .before .before .before .before .before .before .before .before .before .before .before)), sym (c .before .before .before .before .before .before .before .before .before .before .before .before .before .before .before .before .before .padded .ensures .0)) (part-put at k work ys (place (c .before .before .before .before .before .before .before .before .before .before .before .before .before .before .before .before .before)) long) ∙ c .before .before .xor-into .ensures
-          ∙ ap₂ xorInto (mask-part (c .before .before .before .before .before .before .before .before .before .before .before .before .before .before .before .before .before)) (packed-is (c .before .before .before .before .before .before .before .before) ∙ c .before .before .before .before .before .before .before .before .remainders .ensures .1 ∙ ap all (mask-part (c .before .before .before .before .before .before .before .before .before .before .before .before .before .before .before .before .before))),
+    let long : length ys ≡ k = after-xor-into .xor-into .kept .0 ∙ part-length at k work (place after-padded) in
+    let all : List ℕ → List ℕ = λ m. joined (p .l + 1)
+    (λ j. pack (width p) (lowBits (width p) (leftOver p (now (a .ct)) (now (a .made)) m j))) in (
+      after-remainders .remainders .ensures .0 ∙
+          ap (λ (m : List ℕ). errorsFit (p .p) (joined (p .l + 1) (leftOver p (now (a .ct)) (now (a .made)) m))) (mask-part after-padded),
+      rw (sym (at-is after-padded), sym (after-padded .padded .ensures .0)) (part-put at k work ys (place after-padded) long) ∙
+          after-xor-into .xor-into .ensures
+          ∙ ap₂ xorInto (mask-part after-padded)
+          (packed-is after-remainders ∙ after-remainders .remainders .ensures .1 ∙ ap all (mask-part after-padded)),
     )
 
 pub unmask-spec : {M : Type 1} → statement M

@@ -27,11 +27,13 @@ same-length c = search needs
 
 returns : tie.Need-returns
 returns c =
-    let refused = c .before .before in
-    let checked = refused .before .before .before in
-    let known = checked .before .before in
-    decaps-refused _ _ _ _ _ _ _ (known .parameters .ensures .are) (checked .status .ensures) (refused .before .before .if1 .taken)
-    (checked .before .decrypt-work .ensures) (refused .finish .ensures)
+    let known : tie.After-parameters = search in
+    let after-decrypt-work : tie.After-decrypt-work = search in
+    let checked : tie.After-status = search in
+    let then1 : tie.Then1 = search in
+    let refused : tie.After-finish = search in
+    decaps-refused _ _ _ _ _ _ _ (known .parameters .ensures .are) (checked .status .ensures) (then1 .if1 .taken)
+    (after-decrypt-work .decrypt-work .ensures) (refused .finish .ensures)
 
 zeros-requires : tie.Need-zeros-requires
 zeros-requires c κs = search needs
@@ -43,35 +45,42 @@ array-borrow-prefix-found : tie.Need-array-borrow-prefix-found
 array-borrow-prefix-found c = search needs
 
 -- The rooms for the coins and the digest are as long as coins.
-long : (c : tie.After-zeros) → length (take (c .before .before .before .before .parameters .result .coins) (c .zeros .result)) ≡ c .before .before .before .before .parameters .result .coins
+long : (c : tie.After-zeros) →
+    let after-parameters : tie.After-parameters = search in
+    length (take (after-parameters .parameters .result .coins) (c .zeros .result)) ≡ after-parameters .parameters .result .coins
 long c =
+    let after-parameters : tie.After-parameters = search in
     let zeros : length (c .zeros .result) ≡ 64 = search needs in
-    length-take-le _ _ (omega (arith, coins-fit _ (c .before .before .before .before .parameters .ensures .well)))
+    length-take-le _ _ (omega (arith, coins-fit _ (after-parameters .parameters .ensures .well)))
 
-long-2 : (c : tie.After-zeros2) → length (take (c .before .before .before .before .before .parameters .result .coins) (c .zeros2 .result)) ≡ c .before .before .before .before .before .parameters .result .coins
+long-2 : (c : tie.After-zeros2) →
+    let after-parameters : tie.After-parameters = search in
+    length (take (after-parameters .parameters .result .coins) (c .zeros2 .result)) ≡ after-parameters .parameters .result .coins
 long-2 c =
+    let after-parameters : tie.After-parameters = search in
     let zeros : length (c .zeros2 .result) ≡ 64 = search needs in
-    length-take-le _ _ (omega (arith, coins-fit _ (c .before .before .before .before .before .parameters .ensures .well)))
+    length-take-le _ _ (omega (arith, coins-fit _ (after-parameters .parameters .ensures .well)))
 
 slice-aggregate-open-key : tie.Need-slice-aggregate-open-key
-slice-aggregate-open-key c = sym (long (c .before .before))
+slice-aggregate-open-key c = sym (long (search))
 
 array-borrow-prefix-d : tie.Need-array-borrow-prefix-d
 array-borrow-prefix-d c = search needs
 
 slice-aggregate-open-key-2 : tie.Need-slice-aggregate-open-key-2
-slice-aggregate-open-key-2 c = sym (long-2 (c .before .before))
+slice-aggregate-open-key-2 c = sym (long-2 (search))
 
 open-key-requires : tie.Need-open-key-requires
 open-key-requires c κs =
-    let roomed = c .before .before .before .before in
-    let passed = roomed .before .before in
-    let checked = passed .before in
-    let known = checked .before .before in
-    let a = known .before .before .before .before .before .args in
+    let start : tie.Start = search in
+    let known : tie.After-parameters = search in
+    let checked : tie.After-status = search in
+    let passed : tie.Else1 = search in
+    let roomed : tie.After-zeros2 = search in
+    let a = start .args in
     decaps-fits (a .set) _ (now (a .sk)) (now (a .ct)) (now (a .key)) (now (a .work)) _
     (known .parameters .ensures .are) (checked .status .ensures) _ _ (known .parameters .ensures .well) (passed .if1 .left)
-    (long (roomed .before)) (long-2 roomed)
+    (long (search)) (long-2 roomed)
 
 finish-requires-2 : tie.Need-finish-requires-2
 finish-requires-2 c κs = search needs
@@ -84,13 +93,15 @@ same-length-3 c = search needs
 
 returns-2 : tie.Need-returns-2
 returns-2 c =
-    let wiped = c .before .before in
-    let opened = wiped .before .before .before .before .before .before .before .before in
-    let passed = opened .before .before .before .before .before .before .before in
-    let checked = passed .before in
-    let known = checked .before .before in
+    let wiped : tie.After-finish2 = search in
+    let opened : tie.After-open-key = search in
+    let passed : tie.Else1 = search in
+    let checked : tie.After-status = search in
+    let after-decrypt-work : tie.After-decrypt-work = search in
+    let known : tie.After-parameters = search in
     decaps-exit _ _ _ _ _ _ _ (known .parameters .ensures .are) (checked .status .ensures) _ (passed .if1 .left)
-    (opened .open-key .ensures) (checked .before .decrypt-work .ensures) (opened .open-key .kept .1 .1 .1 .1 .1 .1 .0) (wiped .finish2 .ensures)
+    (opened .open-key .ensures) (after-decrypt-work .decrypt-work .ensures) (opened .open-key .kept .1 .1 .1 .1 .1 .1 .0)
+    (wiped .finish2 .ensures)
 
 pub decaps-spec : {M : Type 1} → statement M
 decaps-spec =

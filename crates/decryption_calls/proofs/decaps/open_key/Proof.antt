@@ -11,6 +11,27 @@ use Rattle.decryption_calls.proofs.Fitted.{key-refused, key-answered}
 use Rattle.decryption_calls.proofs.decaps.open_key.Statement.{statement}
 use Rattle.decryption_calls.proofs.decaps.open_key.Tie as tie
 
+-- From a place back to one that is far before it.
+abbrev start-of-recover-coins : tie.After-recover-coins → tie.Start
+start-of-recover-coins c = search
+
+abbrev start-of-work : tie.After-work → tie.Start
+start-of-work c = search
+
+abbrev recover-coins-of-work : tie.After-work → tie.After-recover-coins
+recover-coins-of-work c = search
+
+abbrev recover-coins-of-open : tie.After-open → tie.After-recover-coins
+recover-coins-of-open c = search
+
+abbrev open-of-digest : tie.After-digest → tie.After-open
+open-of-digest c = search
+
+abbrev work-of-matrix : tie.After-matrix → tie.After-work
+work-of-matrix c = search
+
+ruleset places = (start-of-recover-coins, start-of-work, recover-coins-of-work, recover-coins-of-open, open-of-digest, work-of-matrix)
+
 recover-coins-requires : tie.Need-recover-coins-requires
 recover-coins-requires c κs = search needs
 
@@ -45,23 +66,46 @@ part-add-padded-end : tie.Need-part-add-padded-end
 part-add-padded-end c = search needs
 
 -- The part of the work area that has the padded message.
-place : (c : tie.After-padded) → c .before .before .matrix .result + c .before .low .result + c .padded .result ≤ length (c .before .before .before .before .before .before .before .before .before .before .«open» .last .1 .1 .1 .1 .0)
+place : (c : tie.After-padded) →
+    let after-open : tie.After-open = search in
+    let after-matrix : tie.After-matrix = search in
+    let after-low : tie.After-low = search in
+    after-matrix .matrix .result + after-low .low .result + c .padded .result ≤ length (after-open .«open» .last .1 .1 .1 .1 .0)
 place c =
+    let start : tie.Start = search places in
+    let after-recover-coins : tie.After-recover-coins = search in
+    let after-open : tie.After-open = search in
+    let after-matrix : tie.After-matrix = search in
+    let after-low : tie.After-low = search in
     omega (
       arith,
-      c .before .before .before .before .before .before .before .before .before .before .«open» .kept .1 .1 .1 .1 .0,
-      c .before .before .before .before .before .before .before .before .before .before .before .before .before .before .before .before .before .recover-coins .kept .1 .1 .1 .1 .0,
-      c .before .before .before .before .before .before .before .before .before .before .before .before .before .before .before .before .before .before .before .before .before .before .before .before .before .before .pre .room .work-long,
-      c .before .before .matrix .ensures .0,
-      c .before .low .ensures .0,
+      after-open .«open» .kept .1 .1 .1 .1 .0,
+      after-recover-coins .recover-coins .kept .1 .1 .1 .1 .0,
+      start .pre .room .work-long,
+      after-matrix .matrix .ensures .0,
+      after-low .low .ensures .0,
       c .padded .ensures .0,
     )
 
 add-padded-requires : tie.Need-add-padded-requires
 add-padded-requires c κs =
-    let pre = c .before .before .before .before .before .before .before .before .before .before .before .before .before .before .before .before .before .before .before .before .before .before .before .before .before .before .before .before .pre in
-    let long = part-length (c .before .before .before .before .matrix .result + c .before .before .before .low .result) (c .before .before .padded .result) (c .before .before .before .before .before .before .before .before .before .before .before .before .«open» .last .1 .1 .1 .1 .0) (place (c .before .before)) in
-    omega (arith, long, c .before .before .before .before .before .before .before .digest .kept .1 .1 .0, pre .digest-long, pre .room .well .digest-fits, c .before .before .padded .ensures .0)
+    let start : tie.Start = search places in
+    let after-open : tie.After-open = search in
+    let after-digest : tie.After-digest = search in
+    let after-matrix : tie.After-matrix = search in
+    let after-low : tie.After-low = search in
+    let after-padded : tie.After-padded = search in
+    let pre = start .pre in
+    let long = part-length (after-matrix .matrix .result + after-low .low .result) (after-padded .padded .result)
+    (after-open .«open» .last .1 .1 .1 .1 .0) (place after-padded) in
+    omega (
+      arith,
+      long,
+      after-digest .digest .kept .1 .1 .0,
+      pre .digest-long,
+      pre .room .well .digest-fits,
+      after-padded .padded .ensures .0,
+    )
 
 sub-all-zero : tie.Need-sub-all-zero
 sub-all-zero c = search needs
@@ -71,9 +115,15 @@ part-all-zero-start c = search needs
 
 part-all-zero-end : tie.Need-part-all-zero-end
 part-all-zero-end c =
-    let at = c .before .before .before .before .before .before .before .before .matrix .result + c .before .before .before .before .before .before .before .low .result in
-    let same = same-long at (c .before .before .before .before .before .before .padded .result) (c .before .before .before .add-padded .last .1 .0) (c .before .before .before .before .before .before .before .before .before .before .before .before .before .before .before .before .«open» .last .1 .1 .1 .1 .0) (place (c .before .before .before .before .before .before)) (c .before .before .before .add-padded .kept .1 .0) in
-    omega (arith, same, place (c .before .before .before .before .before .before))
+    let after-open : tie.After-open = search in
+    let after-matrix : tie.After-matrix = search in
+    let after-low : tie.After-low = search in
+    let after-padded : tie.After-padded = search in
+    let after-add-padded : tie.After-add-padded = search in
+    let at = after-matrix .matrix .result + after-low .low .result in
+    let same = same-long at (after-padded .padded .result) (after-add-padded .add-padded .last .1 .0)
+    (after-open .«open» .last .1 .1 .1 .1 .0) (place after-padded) (after-add-padded .add-padded .kept .1 .0) in
+    omega (arith, same, place after-padded)
 
 all-zero-requires : tie.Need-all-zero-requires
 all-zero-requires c κs = search needs
@@ -95,28 +145,34 @@ same-length-3 c = search needs
 
 returns : tie.Need-returns
 returns c =
-    let passed = c in
-    let checked = passed .before in
-    let compared = checked .before .before in
-    let added = compared .before .before .before .before .before in
-    let placed = added .before .before .before in
-    let hashed = placed .before .before .before .before .before in
-    let opened = hashed .before .before .before .before .before in
-    let recovered = opened .before .before .before .before .before .before .before in
-    let a = recovered .before .before .before .before .before .before .before .before .before .args in
-    let pre = recovered .before .before .before .before .before .before .before .before .before .pre in
-    key-refused (a .p) (pre .room .well) (now (a .sk)) (now (a .ct)) _ _ _ _ _ _ (recovered .recover-coins .ensures) (opened .«open» .ensures)
-    (placed .before .before .matrix .ensures .0) (placed .before .low .ensures .0) (placed .padded .ensures .0)
-    _ _ (hashed .digest .ensures) (added .add-padded .ensures) (compared .all-zero .ensures) (checked .before .refuse-if .ensures)
+    let checked : tie.After-refuse-if2 = search in
+    let after-refuse-if : tie.After-refuse-if = search in
+    let compared : tie.After-all-zero = search in
+    let added : tie.After-add-padded = search in
+    let placed : tie.After-padded = search in
+    let after-low : tie.After-low = search in
+    let after-matrix : tie.After-matrix = search in
+    let hashed : tie.After-digest = search in
+    let opened : tie.After-open = search in
+    let recovered : tie.After-recover-coins = search places in
+    let start : tie.Start = search places in
+    let a = start .args in
+    key-refused (a .p) (start .pre .room .well) (now (a .sk)) (now (a .ct)) _ _ _ _ _ _ (recovered .recover-coins .ensures)
+    (opened .«open» .ensures)
+    (after-matrix .matrix .ensures .0) (after-low .low .ensures .0) (placed .padded .ensures .0)
+    _ _ (hashed .digest .ensures) (added .add-padded .ensures) (compared .all-zero .ensures) (after-refuse-if .refuse-if .ensures)
     (checked .refuse-if2 .ensures) _ (c .if1 .taken)
 
 shared-key-requires : tie.Need-shared-key-requires
 shared-key-requires c κs =
-    let pre = c .before .before .before .before .before .before .before .before .before .before .before .before .before .before .before .before .before .before .before .before .before .before .before .before .before .before .before .before .before .before .before .before .before .before .before .before .before .before .before .pre in
+    let start : tie.Start = search places in
+    let pre = start .pre in
     (pre .room .well, pre .key-long)
 
 same-length-4 : tie.Need-same-length-4
-same-length-4 c = c .before .before .before .before .before .before .before .before .before .before .before .before .before .before .before .before .before .before .before .before .before .before .before .before .before .before .before .before .before .before .before .before .before .recover-coins .kept .1 .1 .1 .0
+same-length-4 c =
+    let after-recover-coins : tie.After-recover-coins = search places in
+    after-recover-coins .recover-coins .kept .1 .1 .1 .0
 
 same-length-5 : tie.Need-same-length-5
 same-length-5 c = search needs
@@ -129,20 +185,24 @@ same-length-7 c = search needs
 
 returns-2 : tie.Need-returns-2
 returns-2 c =
-    let keyed = c .before .before in
-    let passed = keyed .before .before .before in
-    let checked = passed .before in
-    let compared = checked .before .before in
-    let added = compared .before .before .before .before .before in
-    let placed = added .before .before .before in
-    let hashed = placed .before .before .before .before .before in
-    let opened = hashed .before .before .before .before .before in
-    let recovered = opened .before .before .before .before .before .before .before in
-    let a = recovered .before .before .before .before .before .before .before .before .before .args in
-    let pre = recovered .before .before .before .before .before .before .before .before .before .pre in
-    key-answered (a .p) (pre .room .well) (now (a .sk)) (now (a .ct)) _ _ _ _ _ _ (recovered .recover-coins .ensures) (opened .«open» .ensures)
-    (placed .before .before .matrix .ensures .0) (placed .before .low .ensures .0) (placed .padded .ensures .0)
-    _ _ (hashed .digest .ensures) (added .add-padded .ensures) (compared .all-zero .ensures) (checked .before .refuse-if .ensures)
+    let keyed : tie.After-shared-key = search in
+    let passed : tie.Else1 = search in
+    let checked : tie.After-refuse-if2 = search in
+    let after-refuse-if : tie.After-refuse-if = search in
+    let compared : tie.After-all-zero = search in
+    let added : tie.After-add-padded = search in
+    let placed : tie.After-padded = search in
+    let after-low : tie.After-low = search in
+    let after-matrix : tie.After-matrix = search in
+    let hashed : tie.After-digest = search in
+    let opened : tie.After-open = search places in
+    let recovered : tie.After-recover-coins = search places in
+    let start : tie.Start = search places in
+    let a = start .args in
+    key-answered (a .p) (start .pre .room .well) (now (a .sk)) (now (a .ct)) _ _ _ _ _ _ (recovered .recover-coins .ensures)
+    (opened .«open» .ensures)
+    (after-matrix .matrix .ensures .0) (after-low .low .ensures .0) (placed .padded .ensures .0)
+    _ _ (hashed .digest .ensures) (added .add-padded .ensures) (compared .all-zero .ensures) (after-refuse-if .refuse-if .ensures)
     (checked .refuse-if2 .ensures) _ (passed .if1 .left) (keyed .shared-key .ensures)
 
 pub open-key-spec : {M : Type 1} → statement M

@@ -9,6 +9,21 @@ use Rattle.decryption_calls.proofs.Fitted.{message-refused, message-sho
 use Rattle.decryption_calls.proofs.decrypt.open_message.Statement.{statement}
 use Rattle.decryption_calls.proofs.decrypt.open_message.Tie as tie
 
+-- From a place back to one that is far before it.
+abbrev start-of-recover-coins : tie.After-recover-coins → tie.Start
+start-of-recover-coins c = search
+
+abbrev start-of-work : tie.After-work → tie.Start
+start-of-work c = search
+
+abbrev recover-coins-of-work : tie.After-work → tie.After-recover-coins
+recover-coins-of-work c = search
+
+abbrev recover-coins-of-open : tie.After-open → tie.After-recover-coins
+recover-coins-of-open c = search
+
+ruleset places = (start-of-recover-coins, start-of-work, recover-coins-of-work, recover-coins-of-open)
+
 recover-coins-requires : tie.Need-recover-coins-requires
 recover-coins-requires c κs = search needs
 
@@ -56,19 +71,44 @@ same-length-2 c = search needs
 
 returns : tie.Need-returns
 returns c =
-    let checked = c .before in
-    let ended = checked .before .before .before in
-    let placed = ended .before .before .before in
-    let opened = placed .before .before .before .before .before in
-    let recovered = opened .before .before .before .before .before .before .before in
-    let a = recovered .before .before .before .before .before .before .before .before .before .args in
-    let pre = recovered .before .before .before .before .before .before .before .before .before .pre in
-    message-refused (a .p) (pre .room .well) (now (a .sk)) (now (a .ct)) _ _ _ _ _ _ (recovered .recover-coins .ensures) (opened .«open» .ensures)
-    (placed .before .before .matrix .ensures .0) (placed .before .low .ensures .0) (placed .padded .ensures .0)
-    _ _ (ended .ending .ensures .0) (checked .before .refuse-if .ensures) (checked .refuse-if2 .ensures) _ _ (c .if1 .taken)
+    let a = start .args in
+    message-refused (a .p) (start .pre .room .well) (now (a .sk)) (now (a .ct)) _ _ _ _ _ _ (recovered .recover-coins .ensures)
+    (opened .«open» .ensures)
+    (after-matrix .matrix .ensures .0) (after-low .low .ensures .0) (placed .padded .ensures .0)
+    _ _ (ended .ending .ensures .0) (after-refuse-if .refuse-if .ensures) (checked .refuse-if2 .ensures) _ _ (c .if1 .taken)
+  where
+    start : tie.Start
+    start = search places
+
+    recovered : tie.After-recover-coins
+    recovered = search
+
+    opened : tie.After-open
+    opened = search
+
+    after-matrix : tie.After-matrix
+    after-matrix = search
+
+    after-low : tie.After-low
+    after-low = search
+
+    placed : tie.After-padded
+    placed = search
+
+    ended : tie.After-ending
+    ended = search
+
+    after-refuse-if : tie.After-refuse-if
+    after-refuse-if = search
+
+    checked : tie.After-refuse-if2
+    checked = search
 
 copy-requires : tie.Need-copy-requires
-copy-requires c κs = c .before .before .before .before .before .before .before .before .before .before .before .before .before .before .before .before .before .before .before .before .before .before .before .before .before .before .before .before .before .before .pre .coins-long ∙ sym (c .before .before .before .before .before .before .before .before .before .before .before .before .before .before .before .before .before .before .before .before .before .recover-coins .kept .1 .1 .1 .0 ∙ c .before .before .before .before .before .before .before .before .before .before .before .before .before .before .before .before .before .before .before .before .before .before .before .before .before .before .before .before .before .before .pre .room .coins-long)
+copy-requires c κs =
+    let after-recover-coins : tie.After-recover-coins = search in
+    let start : tie.Start = search in
+    start .pre .coins-long ∙ sym (after-recover-coins .recover-coins .kept .1 .1 .1 .0 ∙ start .pre .room .coins-long)
 
 add-write-message : tie.Need-add-write-message
 add-write-message c = search needs
@@ -81,39 +121,66 @@ part-write-message-start c = search needs
 
 part-write-message-end : tie.Need-part-write-message-end
 part-write-message-end c =
-    let ended = c .before .before .before .before .before .before .before .before .before .before in
-    let placed = ended .before .before .before in
-    let opened = placed .before .before .before .before .before in
-    let recovered = opened .before .before .before .before .before .before .before in
-    let pre = recovered .before .before .before .before .before .before .before .before .before .pre in
+    let ended : tie.After-ending = search in
+    let placed : tie.After-padded = search in
+    let after-low : tie.After-low = search in
+    let after-matrix : tie.After-matrix = search in
+    let opened : tie.After-open = search in
+    let recovered : tie.After-recover-coins = search places in
+    let start : tie.Start = search places in
     let short = simp (length-take, length-drop) at (ended .ending .ensures .1) in
     omega (
       arith,
-      pre .room .work-long,
+      start .pre .room .work-long,
       opened .«open» .kept .1 .1 .1 .1 .0,
       recovered .recover-coins .kept .1 .1 .1 .1 .0,
-      placed .before .before .matrix .ensures .0,
-      placed .before .low .ensures .0,
+      after-matrix .matrix .ensures .0,
+      after-low .low .ensures .0,
       placed .padded .ensures .0,
     )
 
 write-message-requires : tie.Need-write-message-requires
 write-message-requires c κs =
-    let passed = c .before .before .before .before .before .before .before .before in
-    let checked = passed .before in
-    let ended = checked .before .before .before in
-    let placed = ended .before .before .before in
-    let opened = placed .before .before .before .before .before in
-    let recovered = opened .before .before .before .before .before .before .before in
-    let a = recovered .before .before .before .before .before .before .before .before .before .args in
-    let pre = recovered .before .before .before .before .before .before .before .before .before .pre in
+    let a = start .args in
+    let pre = start .pre in
     let short =
-    message-short (a .p) (pre .room .well) (now (a .sk)) (now (a .ct)) _ _ _ _ _ _ (recovered .recover-coins .ensures) (opened .«open» .ensures)
-    (placed .before .before .matrix .ensures .0) (placed .before .low .ensures .0) (placed .padded .ensures .0)
-    _ _ (ended .ending .ensures .0) (checked .before .refuse-if .ensures) (checked .refuse-if2 .ensures)
+    message-short (a .p) (pre .room .well) (now (a .sk)) (now (a .ct)) _ _ _ _ _ _ (recovered .recover-coins .ensures)
+    (opened .«open» .ensures)
+    (after-matrix .matrix .ensures .0) (after-low .low .ensures .0) (placed .padded .ensures .0)
+    _ _ (ended .ending .ensures .0) (after-refuse-if .refuse-if .ensures) (checked .refuse-if2 .ensures)
     (ended .ending .ensures .1) (passed .if1 .left)
     in
     simp (length-take, length-drop) (omega (arith, pre .message-long))
+  where
+    start : tie.Start
+    start = search places
+
+    recovered : tie.After-recover-coins
+    recovered = search places
+
+    opened : tie.After-open
+    opened = search
+
+    after-matrix : tie.After-matrix
+    after-matrix = search
+
+    after-low : tie.After-low
+    after-low = search
+
+    placed : tie.After-padded
+    placed = search
+
+    ended : tie.After-ending
+    ended = search
+
+    after-refuse-if : tie.After-refuse-if
+    after-refuse-if = search
+
+    checked : tie.After-refuse-if2
+    checked = search
+
+    passed : tie.Else1
+    passed = search
 
 same-length-3 : tie.Need-same-length-3
 same-length-3 c = search needs
@@ -129,19 +196,23 @@ same-length-6 c = search needs
 
 returns-2 : tie.Need-returns-2
 returns-2 c =
-    let written = c .before .before in
-    let copied = written .before .before .before .before .before .before in
-    let passed = copied .before .before .before in
-    let checked = passed .before in
-    let ended = checked .before .before .before in
-    let placed = ended .before .before .before in
-    let opened = placed .before .before .before .before .before in
-    let recovered = opened .before .before .before .before .before .before .before in
-    let a = recovered .before .before .before .before .before .before .before .before .before .args in
-    let pre = recovered .before .before .before .before .before .before .before .before .before .pre in
-    message-answered (a .p) (pre .room .well) (now (a .sk)) (now (a .ct)) _ _ _ _ _ _ (recovered .recover-coins .ensures) (opened .«open» .ensures)
-    (placed .before .before .matrix .ensures .0) (placed .before .low .ensures .0) (placed .padded .ensures .0)
-    _ _ (ended .ending .ensures .0) (checked .before .refuse-if .ensures) (checked .refuse-if2 .ensures) _ _
+    let written : tie.After-write-message = search in
+    let copied : tie.After-copy = search in
+    let passed : tie.Else1 = search in
+    let checked : tie.After-refuse-if2 = search in
+    let after-refuse-if : tie.After-refuse-if = search in
+    let ended : tie.After-ending = search in
+    let placed : tie.After-padded = search in
+    let after-low : tie.After-low = search in
+    let after-matrix : tie.After-matrix = search in
+    let opened : tie.After-open = search in
+    let recovered : tie.After-recover-coins = search places in
+    let start : tie.Start = search places in
+    let a = start .args in
+    message-answered (a .p) (start .pre .room .well) (now (a .sk)) (now (a .ct)) _ _ _ _ _ _ (recovered .recover-coins .ensures)
+    (opened .«open» .ensures)
+    (after-matrix .matrix .ensures .0) (after-low .low .ensures .0) (placed .padded .ensures .0)
+    _ _ (ended .ending .ensures .0) (after-refuse-if .refuse-if .ensures) (checked .refuse-if2 .ensures) _ _
     (ended .ending .ensures .1) (passed .if1 .left) (copied .copy .ensures) (written .write-message .ensures)
 
 pub open-message-spec : {M : Type 1} → statement M

@@ -35,16 +35,20 @@ loop-less c = omega arith
 
 loop-again : tie.Need-loop-again Inv-loop μ-loop
 loop-again c =
-    let h = c .before .before .loop in
-    let xs = now (c .before .before .before .args .c) in (
+    let start : tie.Start Inv-loop μ-loop = search in
+    let turn : tie.At-loop Inv-loop μ-loop = search in
+    let h = turn .loop in
+    let xs = now (start .args .c) in (
       omega arith,
       rw add-one (ap (λ (t : Bool). t && eqb (getD xs (h .i) 0) 0) (h .inv .1) ∙ sym (zero-next xs (h .i) (omega arith))),
     )
 
 returns : tie.Need-returns Inv-loop μ-loop
 returns c =
-    let h = c .before .loop in
-    h .inv .1 ∙ ap allZero (take-all (h .i) (now (c .before .before .args .c)) (omega arith))
+    let start : tie.Start Inv-loop μ-loop = search in
+    let turn : tie.At-loop Inv-loop μ-loop = search in
+    let h = turn .loop in
+    h .inv .1 ∙ ap allZero (take-all (h .i) (now (start .args .c)) (omega arith))
 
 pub all-zero-spec : {M : Type 1} → statement M
 all-zero-spec =

@@ -41,19 +41,23 @@ loop-less c = omega arith
 
 loop-again : tie.Need-loop-again Inv-loop μ-loop
 loop-again c =
-    let h = c .before .before .before .before .loop in
-    let xs = now (c .before .before .before .before .before .before .args .c) in
-    let mark = c .before .select-byte .ensures in
+    let start : tie.Start Inv-loop μ-loop = search in
+    let turn : tie.At-loop Inv-loop μ-loop = search in
+    let after-select-byte : tie.After-select-byte Inv-loop μ-loop = search in
+    let h = turn .loop in
+    let xs = now (start .args .c) in
     let place = c .select-place .ensures in (
       omega arith,
       rw place (place-within (eqb (getD xs (h .i) 0) 0) (h .inv .1)),
-      rw (add-one, mark, place) (ending-next xs (h .i) (h .mark) (h .len) (omega arith) (h .inv .2)),
+      rw (add-one, (after-select-byte .select-byte .ensures), place) (ending-next xs (h .i) (h .mark) (h .len) (omega arith) (h .inv .2)),
     )
 
 returns : tie.Need-returns Inv-loop μ-loop
 returns c =
-    let h = c .before .loop in
-    let xs = now (c .before .before .before .args .c) in
+    let start : tie.Start Inv-loop μ-loop = search in
+    let turn : tie.At-loop Inv-loop μ-loop = search in
+    let h = turn .loop in
+    let xs = now (start .args .c) in
     (ap ending (sym (take-all (h .i) xs (omega arith))) ∙ h .inv .2, omega arith)
 
 pub ending-spec : {M : Type 1} → statement M

@@ -37,10 +37,12 @@ same-length c = search needs
 
 returns : tie.Need-returns
 returns c =
-    let written = c .before .before .before .before .before .before in
-    let a = written .before .before .before .before .args in
-    message-written (now (a .src)) (now (a .dst)) _ (written .before .before .before .before .pre)
-    (ap (λ (l : List ℕ). l ++ drop (length (now (a .src))) (now (a .dst))) (written .copy .ensures)) (c .before .before .wipe .ensures)
+    let start : tie.Start = search in
+    let written : tie.After-copy = search in
+    let after-wipe : tie.After-wipe = search in
+    let a = start .args in
+    message-written (now (a .src)) (now (a .dst)) _ (start .pre)
+    (ap (λ (l : List ℕ). l ++ drop (length (now (a .src))) (now (a .dst))) (written .copy .ensures)) (after-wipe .wipe .ensures)
 
 pub write-message-spec : {M : Type 1} → statement M
 write-message-spec =

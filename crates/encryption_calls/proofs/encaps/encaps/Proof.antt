@@ -25,37 +25,54 @@ same-length c = search needs
 
 returns : tie.Need-returns
 returns c =
-    let refused = c .before .before in
-    let checked = refused .before .before .before in
-    let known = checked .before .before in
-    encaps-refused _ _ _ _ _ _ _ _ (known .parameters .ensures .are) (checked .status .ensures) (refused .before .before .if1 .taken)
-    (checked .before .encrypt-work .ensures) (refused .finish .ensures)
+    let known : tie.After-parameters = search in
+    let after-encrypt-work : tie.After-encrypt-work = search in
+    let checked : tie.After-status = search in
+    let then1 : tie.Then1 = search in
+    let refused : tie.After-finish = search in
+    encaps-refused _ _ _ _ _ _ _ _ (known .parameters .ensures .are) (checked .status .ensures) (then1 .if1 .taken)
+    (after-encrypt-work .encrypt-work .ensures) (refused .finish .ensures)
 
 -- The key's buffer is as long as the coins, once the lengths are checked.
-long : (c : tie.Else1) → length (now (c .before .before .before .before .before .before .before .before .before .args .key)) ≡ c .before .before .before .parameters .result .coins
+long : (c : tie.Else1) →
+    let start : tie.Start = search in
+    let after-parameters : tie.After-parameters = search in
+    length (now (start .args .key)) ≡ after-parameters .parameters .result .coins
 long c =
-    let a = c .before .before .before .before .before .before .before .before .before .args in
+    let start : tie.Start = search in
+    let after-parameters : tie.After-parameters = search in
+    let after-status : tie.After-status = search in
+    let a = start .args in
     key-long (a .set) _ (now (a .pk)) (now (a .coins)) (now (a .key)) (now (a .ct)) (now (a .work)) _
-    (c .before .before .before .parameters .ensures .are) (c .before .status .ensures) (c .if1 .left)
+    (after-parameters .parameters .ensures .are) (after-status .status .ensures) (c .if1 .left)
 
 digest-requires : tie.Need-digest-requires
-digest-requires c κs = (c .before .before .before .before .parameters .ensures .well, long (c .before))
+digest-requires c κs =
+    let after-parameters : tie.After-parameters = search in
+    (after-parameters .parameters .ensures .well, long (search))
 
 encrypt-requires : tie.Need-encrypt-requires
 encrypt-requires c κs =
-    let digested = c .before .before .before .before .before in
-    let passed = digested .before .before in
-    let checked = passed .before in
-    let known = checked .before .before in
-    let key = now (known .before .before .before .before .before .before .args .key) in
+    let start : tie.Start = search in
+    let known : tie.After-parameters = search in
+    let checked : tie.After-status = search in
+    let passed : tie.Else1 = search in
+    let digested : tie.After-digest = search in
+    let key = now (start .args .key) in
     encaps-fits _ _ _ _ key _ _ _ (known .parameters .ensures .are) (checked .status .ensures) _ (passed .if1 .left)
     (digested .digest .kept .1 .1 .0)
 
 shared-key-requires : tie.Need-shared-key-requires
-shared-key-requires c κs =
-    let digested = c .before .before .before .before .before .before .before .before .before .before .before .before in
-    let passed = digested .before .before in
-    (passed .before .before .before .parameters .ensures .well, digested .digest .kept .1 .1 .0 ∙ long passed)
+shared-key-requires c κs = (after-parameters .parameters .ensures .well, digested .digest .kept .1 .1 .0 ∙ long passed)
+  where
+    after-parameters : tie.After-parameters
+    after-parameters = search
+
+    passed : tie.Else1
+    passed = search
+
+    digested : tie.After-digest
+    digested = search
 
 finish-requires-2 : tie.Need-finish-requires-2
 finish-requires-2 c κs = search needs
@@ -71,16 +88,17 @@ same-length-4 c = search needs
 
 returns-2 : tie.Need-returns-2
 returns-2 c =
-    let wiped = c .before .before in
-    let keyed = wiped .before .before .before .before in
-    let made = keyed .before .before .before .before .before .before .before in
-    let digested = made .before .before .before .before .before .before in
-    let passed = digested .before .before in
-    let checked = passed .before in
-    let known = checked .before .before in
+    let wiped : tie.After-finish2 = search in
+    let keyed : tie.After-shared-key = search in
+    let made : tie.After-encrypt = search in
+    let digested : tie.After-digest = search in
+    let passed : tie.Else1 = search in
+    let checked : tie.After-status = search in
+    let after-encrypt-work : tie.After-encrypt-work = search in
+    let known : tie.After-parameters = search in
     encaps-exit _ _ _ _ _ _ _ _ (known .parameters .ensures .are) (checked .status .ensures) _ (passed .if1 .left)
     (digested .digest .ensures) (made .encrypt .ensures) (keyed .shared-key .ensures)
-    (checked .before .encrypt-work .ensures) (made .encrypt .kept .1 .1 .1 .1 .1 .0) (wiped .finish2 .ensures)
+    (after-encrypt-work .encrypt-work .ensures) (made .encrypt .kept .1 .1 .1 .1 .1 .0) (wiped .finish2 .ensures)
 
 pub encaps-spec : {M : Type 1} → statement M
 encaps-spec =

@@ -23,20 +23,24 @@ same-length c = search needs
 
 returns : tie.Need-returns
 returns c =
-    let refused = c .before .before in
-    let checked = refused .before .before .before in
-    let known = checked .before .before in
-    encrypt-refused _ _ _ _ _ _ _ _ (known .parameters .ensures .are) (checked .status .ensures) (refused .before .before .if1 .taken)
-    (checked .before .encrypt-work .ensures) (refused .finish .ensures)
+    let known : tie.After-parameters = search in
+    let after-encrypt-work : tie.After-encrypt-work = search in
+    let checked : tie.After-status = search in
+    let then1 : tie.Then1 = search in
+    let refused : tie.After-finish = search in
+    encrypt-refused _ _ _ _ _ _ _ _ (known .parameters .ensures .are) (checked .status .ensures) (then1 .if1 .taken)
+    (after-encrypt-work .encrypt-work .ensures) (refused .finish .ensures)
 
 encrypt-requires : tie.Need-encrypt-requires
 encrypt-requires c κs =
-    let checked = c .before .before .before in
-    let known = checked .before .before in
-    let a = known .before .before .before .before .before .before .args in
+    let start : tie.Start = search in
+    let known : tie.After-parameters = search in
+    let checked : tie.After-status = search in
+    let else1 : tie.Else1 = search in
+    let a = start .args in
     let fits =
     encrypt-fits (a .set) _ (now (a .pk)) (now (a .coins)) (now (a .message)) (now (a .ct)) (now (a .work)) _
-    (known .parameters .ensures .are) (checked .status .ensures) (c .before .before .if1 .left)
+    (known .parameters .ensures .are) (checked .status .ensures) (else1 .if1 .left)
     in
     search needs
 
@@ -51,13 +55,14 @@ same-length-3 c = search needs
 
 returns-2 : tie.Need-returns-2
 returns-2 c =
-    let wiped = c .before .before in
-    let made = wiped .before .before .before .before .before .before in
-    let passed = made .before .before .before in
-    let checked = passed .before in
-    let known = checked .before .before in
+    let wiped : tie.After-finish2 = search in
+    let made : tie.After-encrypt = search in
+    let passed : tie.Else1 = search in
+    let checked : tie.After-status = search in
+    let after-encrypt-work : tie.After-encrypt-work = search in
+    let known : tie.After-parameters = search in
     encrypt-exit _ _ _ _ _ _ _ _ (known .parameters .ensures .are) (checked .status .ensures) _ (passed .if1 .left)
-    (made .encrypt .ensures) (checked .before .encrypt-work .ensures) (made .encrypt .kept .1 .1 .1 .1 .1 .0) (wiped .finish2 .ensures)
+    (made .encrypt .ensures) (after-encrypt-work .encrypt-work .ensures) (made .encrypt .kept .1 .1 .1 .1 .1 .0) (wiped .finish2 .ensures)
 
 pub encrypt-spec : {M : Type 1} → statement M
 encrypt-spec =

@@ -23,18 +23,21 @@ same-length c = search needs
 
 returns : tie.Need-returns
 returns c =
-    let refused = c .before .before in
-    let checked = refused .before .before .before in
-    let known = checked .before .before in
-    keygen-refused _ _ _ _ _ _ _ _ _ (known .parameters .ensures .are) (checked .status .ensures) (refused .before .before .if1 .taken)
-    (checked .before .keygen-work .ensures .0) (refused .finish .ensures)
+    let known : tie.After-parameters = search in
+    let after-keygen-work : tie.After-keygen-work = search in
+    let checked : tie.After-status = search in
+    let then1 : tie.Then1 = search in
+    let refused : tie.After-finish = search in
+    keygen-refused _ _ _ _ _ _ _ _ _ (known .parameters .ensures .are) (checked .status .ensures) (then1 .if1 .taken)
+    (after-keygen-work .keygen-work .ensures .0) (refused .finish .ensures)
 
 keygen-requires : tie.Need-keygen-requires
 keygen-requires c κs =
-    let passed = c .before .before .before in
-    let checked = passed .before in
-    let known = checked .before .before in
-    let a = known .before .before .before .before .before .before .before .args in
+    let start : tie.Start = search in
+    let known : tie.After-parameters = search in
+    let checked : tie.After-status = search in
+    let passed : tie.Else1 = search in
+    let a = start .args in
     let fits =
     keygen-fits (a .set) _ (now (a .mu)) (now (a .gamma)) (now (a .z)) (now (a .pk)) (now (a .sk)) (now (a .work)) _
     (known .parameters .ensures .are) (checked .status .ensures) (passed .if1 .left)
@@ -55,13 +58,14 @@ same-length-4 c = search needs
 
 returns-2 : tie.Need-returns-2
 returns-2 c =
-    let wiped = c .before .before in
-    let made = wiped .before .before .before .before .before .before .before .before in
-    let passed = made .before .before .before .before in
-    let checked = passed .before in
-    let known = checked .before .before in
+    let wiped : tie.After-finish2 = search in
+    let made : tie.After-keygen = search in
+    let passed : tie.Else1 = search in
+    let checked : tie.After-status = search in
+    let after-keygen-work : tie.After-keygen-work = search in
+    let known : tie.After-parameters = search in
     keygen-exit _ _ _ _ _ _ _ _ _ (known .parameters .ensures .are) (checked .status .ensures) _ (passed .if1 .left)
-    (made .keygen .ensures) (checked .before .keygen-work .ensures .0) (made .keygen .kept .1 .1 .1 .1 .1 .1 .0) (wiped .finish2 .ensures)
+    (made .keygen .ensures) (after-keygen-work .keygen-work .ensures .0) (made .keygen .kept .1 .1 .1 .1 .1 .1 .0) (wiped .finish2 .ensures)
 
 pub keygen-spec : {M : Type 1} → statement M
 keygen-spec =

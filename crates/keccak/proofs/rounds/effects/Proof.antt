@@ -55,12 +55,17 @@ rotl-requires-5 c κs = search needs
 
 returns : tie.Need-returns
 returns c =
+    let start : tie.Start = search in
+    let after-rotl : tie.After-rotl = search in
+    let after-rotl2 : tie.After-rotl2 = search in
+    let after-rotl3 : tie.After-rotl3 = search in
+    let after-rotl4 : tie.After-rotl4 = search in
     five-equal
-    (ap (bitXor (getD (c .before .before .before .before .before .args .t1) 4 0)) (c .before .before .before .before .rotl .ensures))
-    (ap (bitXor (getD (c .before .before .before .before .before .args .t1) 0 0)) (c .before .before .before .rotl2 .ensures))
-    (ap (bitXor (getD (c .before .before .before .before .before .args .t1) 1 0)) (c .before .before .rotl3 .ensures))
-    (ap (bitXor (getD (c .before .before .before .before .before .args .t1) 2 0)) (c .before .rotl4 .ensures))
-    (ap (bitXor (getD (c .before .before .before .before .before .args .t1) 3 0)) (c .rotl5 .ensures))
+    (ap (bitXor (getD (start .args .t1) 4 0)) (after-rotl .rotl .ensures))
+    (ap (bitXor (getD (start .args .t1) 0 0)) (after-rotl2 .rotl2 .ensures))
+    (ap (bitXor (getD (start .args .t1) 1 0)) (after-rotl3 .rotl3 .ensures))
+    (ap (bitXor (getD (start .args .t1) 2 0)) (after-rotl4 .rotl4 .ensures))
+    (ap (bitXor (getD (start .args .t1) 3 0)) (c .rotl5 .ensures))
 
 pub effects-spec : {M : Type 1} → statement M
 effects-spec =

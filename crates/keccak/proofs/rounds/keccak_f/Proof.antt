@@ -1,16 +1,17 @@
 -- `keccak::rounds::keccak_f` meets its contract: after i turns the state has had the first i rounds, each with the constant of its round from the table.
 -- Assumes nothing.
-use mathlib.Core.Path.{_≡_, refl, ap, ap₂, _∙_}
-use Prim.Native.Nat.{ℕ, _≤_, _-_}
+use mathlib.Core.Path.{refl, ap₂, _∙_}
+use Prim.Native.Nat.{_-_}
 use native.Mathlib.Numerals.{add-one}
 use native.Mathlib.Omega.{arith}
 use Rattle.keccak.proofs.Tables.{constant-at}
 use Rattle.keccak.proofs.rounds.keccak_f.Statement.{statement}
 use Rattle.keccak.specs.Keccak.{round, rounds, keccakF}
+use Rattle.keccak.proofs.Loops.{Carried, carried-all}
 use Rattle.keccak.proofs.rounds.keccak_f.Tie as tie
 
 abbrev Inv-loop : tie.InvT-loop
-Inv-loop constants s₀ i₀ s i = (i ≤ 24) × (s ≡ rounds i s₀)
+Inv-loop constants s₀ i₀ s i = Carried 24 (λ k. rounds k s₀) i s
 
 abbrev μ-loop : tie.MeasureT-loop
 μ-loop constants s₀ i₀ s i = 24 - i
@@ -20,7 +21,7 @@ iota-constants-requires c κs = tt
 
 loop-holds : tie.Need-loop-holds Inv-loop μ-loop
 unfolding rounds
-loop-holds c = (omega arith, refl)
+loop-holds c = record { within = omega arith; is = refl }
 
 mul-round : tie.Need-mul-round Inv-loop μ-loop
 mul-round c = omega arith
@@ -40,16 +41,21 @@ loop-less c = omega arith
 loop-again : tie.Need-loop-again Inv-loop μ-loop
 unfolding rounds
 loop-again c =
-    let h = c .before .before .loop in
-    let table = c .before .before .before .iota-constants in
-    (omega arith, rw add-one (c .round .ensures ∙ ap₂ round (constant-at (table .result) (h .i) (table .ensures) (omega arith)) (h .inv .1)))
+    let table : tie.After-iota-constants Inv-loop μ-loop = search in
+    let turn : tie.At-loop Inv-loop μ-loop = search in
+    record {
+      within = omega arith;
+      is =
+          rw add-one
+          (c .round .ensures
+          ∙ ap₂ round (constant-at (table .iota-constants .result) (turn .loop .i) (table .iota-constants .ensures) (omega arith)) (turn .loop .inv .is));
+    }
 
 returns : tie.Need-returns Inv-loop μ-loop
 unfolding keccakF
 returns c =
-    let h = c .before .loop in
-    let all : h .i ≡ 24 = omega arith in
-    h .inv .1 ∙ ap (λ (n : ℕ). rounds n (c .before .before .before .args .a)) all
+    let turn : tie.At-loop Inv-loop μ-loop = search in
+    carried-all (turn .loop .inv) (omega arith)
 
 pub keccak-f-spec : {M : Type 1} → statement M
 keccak-f-spec =

@@ -57,13 +57,19 @@ rotate-row-requires-5 c κs = search needs
 
 returns : tie.Need-returns
 returns c =
+    let start : tie.Start = search in
+    let after-rho-offsets : tie.After-rho-offsets = search in
+    let after-rotate-row : tie.After-rotate-row = search in
+    let after-rotate-row2 : tie.After-rotate-row2 = search in
+    let after-rotate-row3 : tie.After-rotate-row3 = search in
+    let after-rotate-row4 : tie.After-rotate-row4 = search in
     five-equal
-    (c .before .before .before .before .before .before .before .before .before .before .before .before .rotate-row .ensures)
-    (c .before .before .before .before .before .before .before .before .before .rotate-row2 .ensures)
-    (c .before .before .before .before .before .before .rotate-row3 .ensures)
-    (c .before .before .before .rotate-row4 .ensures)
+    (after-rotate-row .rotate-row .ensures)
+    (after-rotate-row2 .rotate-row2 .ensures)
+    (after-rotate-row3 .rotate-row3 .ensures)
+    (after-rotate-row4 .rotate-row4 .ensures)
     (c .rotate-row5 .ensures)
-    ∙ rho-by-table (c .before .before .before .before .before .before .before .before .before .before .before .before .before .before .before .rho-offsets .result) (c .before .before .before .before .before .before .before .before .before .before .before .before .before .before .before .before .args .t1) (c .before .before .before .before .before .before .before .before .before .before .before .before .before .before .before .rho-offsets .ensures .rule)
+    ∙ rho-by-table (after-rho-offsets .rho-offsets .result) (start .args .t1) (after-rho-offsets .rho-offsets .ensures .rule)
 
 pub rho-spec : {M : Type 1} → statement M
 rho-spec =

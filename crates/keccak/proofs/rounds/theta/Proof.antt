@@ -73,22 +73,32 @@ xor-row-requires-9 c κs = search needs
 returns : tie.Need-returns
 unfolding theta
 returns c =
-    let a = c .before .before .before .before .before .before .before .before .before .before .before .before .before .before .before .before .before .before .before .before .args .t1 in
-    let sums : c .before .before .before .before .before .before .before .before .before .before .before .xor-row4 .result ≡ five (column a) =
-    c .before .before .before .before .before .before .before .before .before .before .before .xor-row4 .ensures
+    let after-xor-row8 : tie.After-xor-row8 = search in
+    let after-xor-row7 : tie.After-xor-row7 = search in
+    let after-xor-row6 : tie.After-xor-row6 = search in
+    let after-xor-row5 : tie.After-xor-row5 = search in
+    let after-effects : tie.After-effects = search in
+    let after-xor-row4 : tie.After-xor-row4 = search in
+    let after-xor-row3 : tie.After-xor-row3 = search in
+    let after-xor-row2 : tie.After-xor-row2 = search in
+    let after-xor-row : tie.After-xor-row = search in
+    let start : tie.Start = search in
+    let a = start .args .t1 in
+    let sums : after-xor-row4 .xor-row4 .result ≡ five (column a) =
+    after-xor-row4 .xor-row4 .ensures
     ∙ ap (λ (p : List ℕ). xorRow p (getD a 4 []))
-    (c .before .before .before .before .before .before .before .before .before .before .before .before .before .xor-row3 .ensures
+    (after-xor-row3 .xor-row3 .ensures
     ∙ ap (λ (p : List ℕ). xorRow p (getD a 3 []))
-    (c .before .before .before .before .before .before .before .before .before .before .before .before .before .before .before .xor-row2 .ensures ∙ ap (λ (p : List ℕ). xorRow p (getD a 2 [])) (c .before .before .before .before .before .before .before .before .before .before .before .before .before .before .before .before .before .xor-row .ensures)))
+    (after-xor-row2 .xor-row2 .ensures ∙ ap (λ (p : List ℕ). xorRow p (getD a 2 [])) (after-xor-row .xor-row .ensures)))
     in
-    let d : c .before .before .before .before .before .before .before .before .before .before .effects .result ≡ five (effect (five (column a))) =
-    c .before .before .before .before .before .before .before .before .before .before .effects .ensures ∙ ap (λ (p : List ℕ). five (effect p)) sums
+    let d : after-effects .effects .result ≡ five (effect (five (column a))) =
+    after-effects .effects .ensures ∙ ap (λ (p : List ℕ). five (effect p)) sums
     in
     five-equal
-    (c .before .before .before .before .before .before .before .before .xor-row5 .ensures ∙ ap (xorRow (getD a 0 [])) d)
-    (c .before .before .before .before .before .before .xor-row6 .ensures ∙ ap (xorRow (getD a 1 [])) d)
-    (c .before .before .before .before .xor-row7 .ensures ∙ ap (xorRow (getD a 2 [])) d)
-    (c .before .before .xor-row8 .ensures ∙ ap (xorRow (getD a 3 [])) d)
+    (after-xor-row5 .xor-row5 .ensures ∙ ap (xorRow (getD a 0 [])) d)
+    (after-xor-row6 .xor-row6 .ensures ∙ ap (xorRow (getD a 1 [])) d)
+    (after-xor-row7 .xor-row7 .ensures ∙ ap (xorRow (getD a 2 [])) d)
+    (after-xor-row8 .xor-row8 .ensures ∙ ap (xorRow (getD a 3 [])) d)
     (c .xor-row9 .ensures ∙ ap (xorRow (getD a 4 [])) d)
 
 pub theta-spec : {M : Type 1} → statement M

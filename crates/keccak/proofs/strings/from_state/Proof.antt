@@ -1,27 +1,31 @@
 -- `keccak::strings::from_state` meets its contract: the string is filled row by row.
 -- Assumes nothing.
-use mathlib.Core.Path.{_≡_, refl, sym, ap, _∙_}
+use mathlib.Core.Path.{_∙_}
 use mathlib.Core.List.{[]}
-use Prim.Native.Nat.{ℕ, _+_, _*_, _≤_, _-_}
+use Prim.Native.Nat.{ℕ, _-_}
 use native.Mathlib.Omega.{arith}
 use borrow.Author.Needs.{needs}
-use lib.ListN.{length, take, getD, length-take, length-drop, length-replicate}
-use lib.Seq.{take-all}
-use Rattle.keccak.proofs.Parts.{fill-more, length-patched}
+use lib.ListN.{length-take, length-drop, length-replicate}
 use Rattle.keccak.proofs.strings.from_state.Statement.{statement}
-use Rattle.keccak.specs.Lists.{concatMap}
 use Rattle.keccak.specs.Strings.{rowString, fromState}
+use Rattle.keccak.proofs.Parts.{PartsWritten, parts-begun, parts-more, parts-all}
 use Rattle.keccak.proofs.strings.from_state.Tie as tie
 
 abbrev Inv-loop : tie.InvT-loop
-Inv-loop a s₀ y₀ s y = (y ≤ 5) × (length s ≡ 200) × (take (40 * y) s ≡ concatMap rowString (take y a))
+Inv-loop a s₀ y₀ s y = PartsWritten rowString a 40 5 y s
 
 abbrev μ-loop : tie.MeasureT-loop
 μ-loop a s₀ y₀ s y = 5 - y
 
+-- The places of the code that the answers name.
+abbrev Start : Type 0
+Start = tie.Start Inv-loop μ-loop
+
+abbrev Turn : Type 0
+Turn = tie.At-loop Inv-loop μ-loop
+
 loop-holds : tie.Need-loop-holds Inv-loop μ-loop
-unfolding concatMap
-loop-holds c = (omega arith, length-replicate {A = ℕ} 200 0, refl)
+loop-holds c = parts-begun (search needs) (length-replicate {A = ℕ} 200 0)
 
 mul-s : tie.Need-mul-s Inv-loop μ-loop
 mul-s c = omega arith
@@ -58,27 +62,16 @@ loop-less c = omega arith
 
 loop-again : tie.Need-loop-again Inv-loop μ-loop
 loop-again c =
-    let h = c .before .before .before .before .before .loop in
-    let a = c .before .before .before .before .before .before .args .t1 in
-    let rows : length a ≡ 5 = search needs in
-    let row = getD a (h .y) [] in
-    let bytes = c .before .store-row .last .0 in
-    let wrote : bytes ≡ rowString row = c .before .store-row .ensures in
-    let forty : length bytes ≡ 40 = c .before .store-row .kept .0 ∙ simp (length-take, length-drop) (omega arith) in
-    let step : 40 * h .y + 40 - 40 * h .y ≡ 40 = omega arith in (
-      omega arith,
-      rw step (length-patched (40 * h .y) 40 bytes (h .s) forty (omega arith) ∙ h .inv .1),
-      rw step
-          (fill-more rowString a [] 40 (h .y) (h .s) bytes (omega arith) (ap length (sym wrote) ∙ forty) (omega arith) wrote (h .inv .2)),
-    )
+    let turn : Turn = search in
+    let stored : tie.After-store-row Inv-loop μ-loop = search in
+    parts-more (turn .loop .inv) [] (omega arith) (stored .store-row .kept .0 ∙ simp (length-take, length-drop) (omega arith))
+    (stored .store-row .ensures)
 
 returns : tie.Need-returns Inv-loop μ-loop
 unfolding fromState
 returns c =
-    let h = c .before .loop in
-    let a = c .before .before .args .t1 in
-    let rows : length a ≡ 5 = search needs in
-    sym (take-all (40 * h .y) (h .s) (omega arith)) ∙ h .inv .2 ∙ ap (concatMap rowString) (take-all (h .y) a (omega arith))
+    let turn : Turn = search in
+    parts-all (turn .loop .inv) (omega arith)
 
 pub from-state-spec : {M : Type 1} → statement M
 from-state-spec =

@@ -38,12 +38,17 @@ load-requires-5 c κs = search needs
 
 returns : tie.Need-returns
 returns c =
-    let a = c .before .before .before .before .before .before .args in
+    let start : tie.Start = search in
+    let after-load : tie.After-load = search in
+    let after-load2 : tie.After-load2 = search in
+    let after-load3 : tie.After-load3 = search in
+    let after-load4 : tie.After-load4 = search in
+    let a = start .args in
     five-equal
-    (c .before .before .before .before .load .ensures ∙ ap (laneAt (now (a .s))) (sym (add-zero (a .i))))
-    (c .before .before .before .load2 .ensures)
-    (c .before .before .load3 .ensures)
-    (c .before .load4 .ensures)
+    (after-load .load .ensures ∙ ap (laneAt (now (a .s))) (sym (add-zero (a .i))))
+    (after-load2 .load2 .ensures)
+    (after-load3 .load3 .ensures)
+    (after-load4 .load4 .ensures)
     (c .load5 .ensures)
 
 pub load-row-spec : {M : Type 1} → statement M

@@ -1,26 +1,31 @@
 -- `keccak::strings::store_row` meets its contract: the string is filled lane by lane.
 -- Assumes nothing.
-use mathlib.Core.Path.{_≡_, refl, sym, ap, _∙_}
-use Prim.Native.Nat.{_+_, _*_, _≤_, _-_}
+use Prim.Native.Nat.{_-_}
+use mathlib.Core.Path.{ap, _∙_}
 use native.Mathlib.Omega.{arith}
 use borrow.Author.Needs.{needs}
-use lib.ListN.{length-take, length-drop, length, take, getD}
-use lib.Seq.{take-all}
-use Rattle.keccak.proofs.Parts.{fill-more, length-patched, length-digits}
+use lib.ListN.{length, length-take, length-drop}
+use Rattle.keccak.proofs.Parts.{length-digits, PartsWritten, parts-begun, parts-more, parts-all}
 use Rattle.keccak.proofs.strings.store_row.Statement.{statement}
-use Rattle.keccak.specs.Lists.{concatMap, digits}
+use Rattle.keccak.specs.Lists.{digits}
 use Rattle.keccak.specs.Strings.{rowString}
 use Rattle.keccak.proofs.strings.store_row.Tie as tie
 
 abbrev Inv-loop : tie.InvT-loop
-Inv-loop dst₀ p x₀ dst x = (x ≤ 5) × (length dst ≡ 40) × (take (8 * x) dst ≡ concatMap (digits 8 8) (take x p))
+Inv-loop dst₀ p x₀ dst x = PartsWritten (digits 8 8) p 8 5 x dst
 
 abbrev μ-loop : tie.MeasureT-loop
 μ-loop dst₀ p x₀ dst x = 5 - x
 
+-- The places of the code that the answers name.
+abbrev Start : Type 0
+Start = tie.Start Inv-loop μ-loop
+
+abbrev Turn : Type 0
+Turn = tie.At-loop Inv-loop μ-loop
+
 loop-holds : tie.Need-loop-holds Inv-loop μ-loop
-unfolding concatMap
-loop-holds c = (omega arith, c .before .pre, refl)
+loop-holds c = let start : Start = search in parts-begun (search needs) (start .pre)
 
 mul-store : tie.Need-mul-store Inv-loop μ-loop
 mul-store c = omega arith
@@ -57,29 +62,19 @@ loop-less c = omega arith
 
 loop-again : tie.Need-loop-again Inv-loop μ-loop
 loop-again c =
-    let h = c .before .before .before .before .before .loop in
-    let p = c .before .before .before .before .before .before .before .args .t2 in
-    let long : length p ≡ 5 = search needs in
-    let bytes = c .before .before .store .last .0 in
-    let wrote : bytes ≡ digits 8 8 (getD p (h .x) 0) = c .before .before .store .ensures in
-    let eight : length bytes ≡ 8 = ap length wrote ∙ length-digits 8 8 (getD p (h .x) 0) in
-    let step : 8 * h .x + 8 - 8 * h .x ≡ 8 = omega arith in (
-      omega arith,
-      rw step (length-patched (8 * h .x) 8 bytes (h .dst) eight (omega arith) ∙ h .inv .1),
-      rw step
-          (fill-more (digits 8 8) p 0 8 (h .x) (h .dst) bytes (omega arith) (length-digits 8 8 _) (omega arith) wrote (h .inv .2)),
-    )
+    let turn : Turn = search in
+    let stored : tie.After-store Inv-loop μ-loop = search in
+    parts-more (turn .loop .inv) 0 (omega arith) (ap length (stored .store .ensures) ∙ length-digits 8 8 _)
+    (stored .store .ensures)
 
 same-length : tie.Need-same-length Inv-loop μ-loop
-same-length c = c .before .loop .inv .1 ∙ sym (c .before .before .before .pre)
+same-length c = search needs
 
 returns : tie.Need-returns Inv-loop μ-loop
 unfolding rowString
 returns c =
-    let h = c .before .loop in
-    let p = c .before .before .before .args .t2 in
-    let long : length p ≡ 5 = search needs in
-    sym (take-all (8 * h .x) (h .dst) (omega arith)) ∙ h .inv .2 ∙ ap (concatMap (digits 8 8)) (take-all (h .x) p (omega arith))
+    let turn : Turn = search in
+    parts-all (turn .loop .inv) (omega arith)
 
 pub store-row-spec : {M : Type 1} → statement M
 store-row-spec =

@@ -1,38 +1,45 @@
 -- `keccak::strings::xor_into` meets its contract: after i turns the first i bytes of src are added.
 -- Assumes nothing.
-use mathlib.Core.Path.{_≡_, sym, ap, _∙_}
-use Prim.Native.Nat.{_≤_, _-_}
+use mathlib.Core.Path.{sym, ap, _∙_}
+use Prim.Native.Nat.{_-_}
 use native.Mathlib.Numerals.{add-one}
 use native.Mathlib.Omega.{arith}
 use denote.Ref.{now}
 use lib.ListN.{length, take}
-use lib.Seq.{take-all}
 use Rattle.keccak.proofs.Parts.{xorInto-nothing, xorInto-more, length-xorInto}
 use Rattle.keccak.proofs.strings.xor_into.Statement.{statement}
 use Rattle.keccak.specs.Strings.{xorInto}
+use Rattle.keccak.proofs.Loops.{Carried, carried-list}
 use Rattle.keccak.proofs.strings.xor_into.Tie as tie
 
 abbrev Inv-loop : tie.InvT-loop
-Inv-loop dst₀ src i₀ dst i = (i ≤ length src) × (dst ≡ xorInto dst₀ (take i src))
+Inv-loop dst₀ src i₀ dst i = Carried (length src) (λ k. xorInto dst₀ (take k src)) i dst
 
 abbrev μ-loop : tie.MeasureT-loop
 μ-loop dst₀ src i₀ dst i = length src - i
 
+-- The places of the code that the answers name.
+abbrev Start : Type 0
+Start = tie.Start Inv-loop μ-loop
+
+abbrev Turn : Type 0
+Turn = tie.At-loop Inv-loop μ-loop
+
 loop-holds : tie.Need-loop-holds Inv-loop μ-loop
-loop-holds c = (omega arith, sym (xorInto-nothing _))
+loop-holds c = record { within = omega arith; is = sym (xorInto-nothing _) }
 
 slice-read-dst : tie.Need-slice-read-dst Inv-loop μ-loop
 slice-read-dst c =
-    let h = c .before .before .loop in
-    rw (h .inv .1, length-xorInto) (omega arith)
+    let turn : Turn = search in
+    rw (turn .loop .inv .is, length-xorInto) (omega arith)
 
 shared-slice-read-dst : tie.Need-shared-slice-read-dst Inv-loop μ-loop
 shared-slice-read-dst c = omega arith
 
 slice-write-dst : tie.Need-slice-write-dst Inv-loop μ-loop
 slice-write-dst c =
-    let h = c .before .before .before .loop in
-    rw (h .inv .1, length-xorInto) (omega arith)
+    let turn : Turn = search in
+    rw (turn .loop .inv .is, length-xorInto) (omega arith)
 
 add-i : tie.Need-add-i Inv-loop μ-loop
 add-i c = omega arith
@@ -42,20 +49,21 @@ loop-less c = omega arith
 
 loop-again : tie.Need-loop-again Inv-loop μ-loop
 loop-again c =
-    let h = c .before .before .before .loop in
-    let a = c .before .before .before .before .args in (
-      omega arith,
-      rw (add-one, xorInto-more (now (a .dst)) (now (a .src)) (h .i) (omega arith) (omega arith), h .inv .1),
-    )
+    let start : Start = search in
+    let turn : Turn = search in
+    record {
+      within = omega arith;
+      is = rw (add-one, xorInto-more (now (start .args .dst)) (now (start .args .src)) (turn .loop .i) (omega arith) (omega arith), turn .loop .inv .is);
+    }
 
 same-length : tie.Need-same-length Inv-loop μ-loop
-same-length c = ap length (c .before .loop .inv .1) ∙ length-xorInto _ _
+same-length c = let turn : Turn = search in ap length (turn .loop .inv .is) ∙ length-xorInto _ _
 
 returns : tie.Need-returns Inv-loop μ-loop
 returns c =
-    let h = c .before .loop in
-    let a = c .before .before .args in
-    h .inv .1 ∙ ap (xorInto (now (a .dst))) (take-all (h .i) (now (a .src)) (omega arith))
+    let start : Start = search in
+    let turn : Turn = search in
+    carried-list (now (start .args .src)) (xorInto (now (start .args .dst))) (turn .loop .inv) (omega arith)
 
 pub xor-into-spec : {M : Type 1} → statement M
 xor-into-spec =

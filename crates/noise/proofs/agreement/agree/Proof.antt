@@ -14,21 +14,38 @@ use Rattle.noise.proofs.agreement.agree.Statement.{statement}
 use Rattle.noise.proofs.agreement.agree.Tie as tie
 
 -- The rooms, and what is there once the bits are dropped.
-values-room : (c : tie.After-zeros) → length (take (c .before .before .before .before .args .p .l * c .before .before .before .before .args .p .n) (c .zeros .result)) ≡ c .before .before .before .before .args .p .l * c .before .before .before .before .args .p .n
+values-room : (c : tie.After-zeros) →
+    let start : tie.Start = search in
+    length (take (start .args .p .l * start .args .p .n) (c .zeros .result)) ≡ start .args .p .l * start .args .p .n
 values-room c =
+    let start : tie.Start = search in
     let long : length (c .zeros .result) ≡ 1536 = search needs in
-    simp length-take (omega (arith, c .before .before .before .before .pre .well .vector))
+    simp length-take (omega (arith, start .pre .well .vector))
 
-bytes-room : (c : tie.After-bytes) → length (take (length (now (c .before .before .before .before .before .args .stored))) (c .bytes .result)) ≡ length (now (c .before .before .before .before .before .args .stored))
+bytes-room : (c : tie.After-bytes) →
+    let start : tie.Start = search in
+    length (take (length (now (start .args .stored))) (c .bytes .result)) ≡ length (now (start .args .stored))
 bytes-room c =
+    let start : tie.Start = search in
     let long : length (c .bytes .result) ≡ 3072 = search needs in
-    simp length-take (omega (arith, stored-short (c .before .before .before .before .before .args .p) (c .before .before .before .before .before .pre .well), c .before .before .before .before .before .pre .stored-long))
+    simp length-take (omega (arith, stored-short (start .args .p) (start .pre .well), start .pre .stored-long))
 
-filled : (c : tie.After-drop-bits) → length (c .drop-bits .last .1 .1 .1 .0) ≡ length (now (c .before .before .before .before .before .before .before .before .args .stored))
-filled c = c .drop-bits .kept .1 .1 .1 .0 ∙ bytes-room (c .before .before .before)
+filled : (c : tie.After-drop-bits) →
+    let start : tie.Start = search in
+    length (c .drop-bits .last .1 .1 .1 .0) ≡ length (now (start .args .stored))
+filled c = c .drop-bits .kept .1 .1 .1 .0 ∙ bytes-room (search)
 
-held : (c : tie.After-drop-bits) → take (length (now (c .before .before .before .before .before .before .before .before .args .stored))) (c .drop-bits .last .1 .1 .1 .0 ++ drop (length (now (c .before .before .before .before .before .before .before .before .args .stored))) (c .before .before .before .bytes .result)) ≡ c .drop-bits .last .1 .1 .1 .0
-held c = take-at (c .drop-bits .last .1 .1 .1 .0) (drop (length (now (c .before .before .before .before .before .before .before .before .args .stored))) (c .before .before .before .bytes .result)) (length (now (c .before .before .before .before .before .before .before .before .args .stored))) (filled c)
+held : (c : tie.After-drop-bits) →
+    let start : tie.Start = search in
+    let after-bytes : tie.After-bytes = search in
+    take (length (now (start .args .stored)))
+    (c .drop-bits .last .1 .1 .1 .0 ++ drop (length (now (start .args .stored))) (after-bytes .bytes .result)) ≡
+    c .drop-bits .last .1 .1 .1 .0
+held c =
+    let start : tie.Start = search in
+    let after-bytes : tie.After-bytes = search in
+    take-at (c .drop-bits .last .1 .1 .1 .0) (drop (length (now (start .args .stored))) (after-bytes .bytes .result))
+    (length (now (start .args .stored))) (filled c)
 
 mul-vector : tie.Need-mul-vector
 mul-vector c = search needs
@@ -43,32 +60,42 @@ array-borrow-prefix-values : tie.Need-array-borrow-prefix-values
 array-borrow-prefix-values c = search needs
 
 slice-aggregate-drop-bits : tie.Need-slice-aggregate-drop-bits
-slice-aggregate-drop-bits c = sym (values-room (c .before .before))
+slice-aggregate-drop-bits c = sym (values-room (search))
 
 array-borrow-prefix-dropped : tie.Need-array-borrow-prefix-dropped
 array-borrow-prefix-dropped c =
-    let long : length (c .before .bytes .result) ≡ 3072 = search needs in
-    omega (arith, stored-short (c .before .before .before .before .before .before .args .p) (c .before .before .before .before .before .before .pre .well), c .before .before .before .before .before .before .pre .stored-long)
+    let start : tie.Start = search in
+    let after-bytes : tie.After-bytes = search in
+    let long : length (after-bytes .bytes .result) ≡ 3072 = search needs in
+    omega (arith, stored-short (start .args .p) (start .pre .well), start .pre .stored-long)
 
 slice-aggregate-drop-bits-2 : tie.Need-slice-aggregate-drop-bits-2
-slice-aggregate-drop-bits-2 c = sym (bytes-room (c .before .before))
+slice-aggregate-drop-bits-2 c = sym (bytes-room (search))
 
 drop-bits-requires : tie.Need-drop-bits-requires
 drop-bits-requires c κs =
-    let pre = c .before .before .before .before .before .before .before .pre in
-    (record { well = pre .well; value-long = pre .value-long; stored-long = bytes-room (c .before .before) ∙ pre .stored-long }, values-room (c .before .before .before))
+    let start : tie.Start = search in
+    let pre = start .pre in
+    (record { well = pre .well; value-long = pre .value-long; stored-long = bytes-room (search) ∙ pre .stored-long }, values-room (search))
 
 array-share-prefix-dropped : tie.Need-array-share-prefix-dropped
-array-share-prefix-dropped c = simp length-append (omega (arith, filled (c .before .before)))
+array-share-prefix-dropped c = simp length-append (omega (arith, filled (search)))
 
 slice-aggregate-same-bytes : tie.Need-slice-aggregate-same-bytes
-slice-aggregate-same-bytes c = sym (ap length (held (c .before .before .before)) ∙ filled (c .before .before .before))
+slice-aggregate-same-bytes c =
+    let after-drop-bits : tie.After-drop-bits = search in
+    sym (ap length (held after-drop-bits) ∙ filled after-drop-bits)
 
 same-bytes-requires : tie.Need-same-bytes-requires
-same-bytes-requires c κs = sym (ap length (held (c .before .before .before)) ∙ filled (c .before .before .before))
+same-bytes-requires c κs =
+    let after-drop-bits : tie.After-drop-bits = search in
+    sym (ap length (held after-drop-bits) ∙ filled after-drop-bits)
 
 returns : tie.Need-returns
-returns c = c .same-bytes .ensures ∙ ap (same (now (c .before .before .before .before .before .before .before .before .before .before .before .before .args .stored))) (held (c .before .before .before .before) ∙ c .before .before .before .before .drop-bits .ensures)
+returns c =
+    let start : tie.Start = search in
+    let after-drop-bits : tie.After-drop-bits = search in
+    c .same-bytes .ensures ∙ ap (same (now (start .args .stored))) (held after-drop-bits ∙ after-drop-bits .drop-bits .ensures)
 
 pub agree-spec : {M : Type 1} → statement M
 agree-spec =

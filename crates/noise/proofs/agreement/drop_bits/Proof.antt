@@ -13,8 +13,9 @@ use Rattle.noise.proofs.agreement.drop_bits.Tie as tie
 
 unpack-requires : tie.Need-unpack-requires
 unpack-requires c κs =
-    let pre = c .before .before .before .before .pre in
-    let p = c .before .before .before .before .args .p in
+    let start : tie.Start = search in
+    let pre = start .pre in
+    let p = start .args .p in
     (pre .0 .well .word, reads p (pre .0 .well) (p .l) (p .k) (pre .1) (omega (arith, pre .0 .value-long)))
 
 compress-requires : tie.Need-compress-requires
@@ -25,11 +26,14 @@ sub-pack c = search needs
 
 pack-requires : tie.Need-pack-requires
 pack-requires c κs =
-    let pre = c .before .before .before .before .before .before .before .before .before .before .before .before .before .before .pre in
-    let p = c .before .before .before .before .before .before .before .before .before .before .before .before .before .before .args .p in
+    let start : tie.Start = search in
+    let after-unpack : tie.After-unpack = search in
+    let after-compress : tie.After-compress = search in
+    let pre = start .pre in
+    let p = start .args .p in
     let W = pre .0 .well in
     let w = p .k - p .t in
-    let long = c .before .before .before .before .before .compress .kept .0 ∙ c .before .before .before .before .before .before .before .before .before .unpack .kept .1 .1 .0 ∙ pre .1 in
+    let long = after-compress .compress .kept .0 ∙ after-unpack .unpack .kept .1 .1 .0 ∙ pre .1 in
     let whole = ap (λ (m : ℕ). w * m) long ∙ whole-bytes p W (p .l) w in
     (omega (arith, W .word), omega (arith, pre .0 .stored-long, whole))
 
@@ -41,9 +45,14 @@ same-length-2 c = search needs
 
 returns : tie.Need-returns
 returns c =
-    let pre = c .before .before .before .before .before .before .before .before .before .before .before .before .before .before .before .before .before .pre in
-    let a = c .before .before .before .before .before .before .before .before .before .before .before .before .before .before .before .before .before .args in
-    dropped-is (a .p) (pre .0 .well) (now (a .b)) (pre .1) (c .before .before .before .before .before .before .before .before .before .before .before .before .unpack .ensures) (c .before .before .before .before .before .before .before .before .compress .ensures) (c .before .before .pack .ensures)
+    let start : tie.Start = search in
+    let after-unpack : tie.After-unpack = search in
+    let after-compress : tie.After-compress = search in
+    let after-pack : tie.After-pack = search in
+    let pre = start .pre in
+    let a = start .args in
+    dropped-is (a .p) (pre .0 .well) (now (a .b)) (pre .1) (after-unpack .unpack .ensures) (after-compress .compress .ensures)
+    (after-pack .pack .ensures)
 
 pub drop-bits-spec : {M : Type 1} → statement M
 drop-bits-spec =

@@ -38,19 +38,24 @@ loop-less c = omega arith
 
 loop-again : tie.Need-loop-again Inv-loop μ-loop
 loop-again c =
-    let h = c .before .before .before .loop in
-    let a = c .before .before .before .before .args in
+    let start : tie.Start Inv-loop μ-loop = search in
+    let turn : tie.At-loop Inv-loop μ-loop = search in
+    let h = turn .loop in
+    let a = start .args in
     let xs = now (a .a) in
     let ys = now (a .b) in (
       omega arith,
-      rw add-one (ap (λ (t : Bool). t && eqb (getD xs (h .i) 0) (getD ys (h .i) 0)) (h .inv .1) ∙ same-more xs ys (h .i) (omega arith) (c .before .before .before .before .pre)),
+      rw add-one (ap (λ (t : Bool). t && eqb (getD xs (h .i) 0) (getD ys (h .i) 0)) (h .inv .1) ∙
+          same-more xs ys (h .i) (omega arith) (start .pre)),
     )
 
 returns : tie.Need-returns Inv-loop μ-loop
 returns c =
-    let h = c .before .loop in
-    let a = c .before .before .args in
-    h .inv .1 ∙ ap₂ same (take-all (h .i) (now (a .a)) (omega arith)) (take-all (h .i) (now (a .b)) (omega (arith, c .before .before .pre)))
+    let start : tie.Start Inv-loop μ-loop = search in
+    let turn : tie.At-loop Inv-loop μ-loop = search in
+    let h = turn .loop in
+    let a = start .args in
+    h .inv .1 ∙ ap₂ same (take-all (h .i) (now (a .a)) (omega arith)) (take-all (h .i) (now (a .b)) (omega (arith, start .pre)))
 
 pub same-bytes-spec : {M : Type 1} → statement M
 same-bytes-spec =

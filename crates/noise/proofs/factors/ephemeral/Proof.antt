@@ -21,11 +21,18 @@ sub-small c = search needs
 
 small-requires : tie.Need-small-requires
 small-requires c κs =
-    let pre = c .before .before .before .before .before .pre in
-    let p = c .before .before .before .before .before .args .p in
+    let start : tie.Start = search in
+    let pre = start .pre in
+    let p = start .args .p in
     let W = pre .first .well in
-    let turn : c .before .before .before .before .before .args .i - 1 < p .l - 1 = omega (arith, pre .turn) in
-    record { well = W; narrow = width-bound p W; few = omega (arith, pre .turn, W .few); there = le-trans (within p (width p) turn) (pre .rest-there); room-is = pre .first .room-is }
+    let turn : start .args .i - 1 < p .l - 1 = omega (arith, pre .turn) in
+    record {
+      well = W;
+      narrow = width-bound p W;
+      few = omega (arith, pre .turn, W .few);
+      there = le-trans (within p (width p) turn) (pre .rest-there);
+      room-is = pre .first .room-is;
+    }
 
 same-length : tie.Need-same-length
 same-length c = search needs
@@ -33,9 +40,12 @@ same-length c = search needs
 returns : tie.Need-returns
 unfolding ephemeralBy
 returns c =
-    let a = c .before .before .before .before .before .before .before .args in
+    let start : tie.Start = search in
+    let after-first : tie.After-first = search in
+    let a = start .args in
     let none : 0 ≡ a .i = omega arith in
-    c .before .first .ensures ∙ ap (λ (i : ℕ). tabulate (a .p .n) (ephemeralBy (a .p) (now (a .coins)) (now (a .high)) (now (a .rest)) i)) none
+    after-first .first .ensures ∙
+    ap (λ (i : ℕ). tabulate (a .p .n) (ephemeralBy (a .p) (now (a .coins)) (now (a .high)) (now (a .rest)) i)) none
 
 same-length-2 : tie.Need-same-length-2
 same-length-2 c = search needs
@@ -43,9 +53,12 @@ same-length-2 c = search needs
 returns-2 : tie.Need-returns-2
 unfolding ephemeralBy
 returns-2 c =
-    let a = c .before .before .before .before .before .before .before .args in
+    let start : tie.Start = search in
+    let after-small : tie.After-small = search in
+    let a = start .args in
     let some : suc (a .i - 1) ≡ a .i = omega arith in
-    c .before .small .ensures ∙ ap (λ (i : ℕ). tabulate (a .p .n) (ephemeralBy (a .p) (now (a .coins)) (now (a .high)) (now (a .rest)) i)) some
+    after-small .small .ensures ∙
+    ap (λ (i : ℕ). tabulate (a .p .n) (ephemeralBy (a .p) (now (a .coins)) (now (a .high)) (now (a .rest)) i)) some
 
 pub ephemeral-spec : {M : Type 1} → statement M
 ephemeral-spec =

@@ -19,24 +19,31 @@ array-borrow-prefix-v c = search needs
 
 slice-aggregate-first-with : tie.Need-slice-aggregate-first-with
 slice-aggregate-first-with c =
-    let room : length (c .before .before .words .result) ≡ 512 = search needs in
-    sym (prefix-long (c .before .before .before .before .before .args .p .n) (c .before .before .words .result) room (c .before .before .before .before .before .pre .well .short))
+    let start : tie.Start = search in
+    let after-words : tie.After-words = search in
+    let room : length (after-words .words .result) ≡ 512 = search needs in
+    sym (prefix-long (start .args .p .n) (after-words .words .result) room (start .pre .well .short))
 
 array-borrow-prefix-h : tie.Need-array-borrow-prefix-h
 array-borrow-prefix-h c = search needs
 
 slice-aggregate-first-with-2 : tie.Need-slice-aggregate-first-with-2
 slice-aggregate-first-with-2 c =
-    let room : length (c .before .before .words2 .result) ≡ 512 = search needs in
-    sym (prefix-long (c .before .before .before .before .before .before .args .p .n) (c .before .before .words2 .result) room (c .before .before .before .before .before .before .pre .well .short))
+    let start : tie.Start = search in
+    let after-words2 : tie.After-words2 = search in
+    let room : length (after-words2 .words2 .result) ≡ 512 = search needs in
+    sym (prefix-long (start .args .p .n) (after-words2 .words2 .result) room (start .pre .well .short))
 
 first-with-requires : tie.Need-first-with-requires
 first-with-requires c κs =
-    let n = c .before .before .before .before .before .before .before .args .p .n in
-    let short = c .before .before .before .before .before .before .before .pre .well .short in
-    let v : length (c .before .before .before .before .words .result) ≡ 512 = search needs in
-    let h : length (c .before .before .before .words2 .result) ≡ 512 = search needs in
-    (c .before .before .before .before .before .before .before .pre, prefix-long n (c .before .before .before .before .words .result) v short, prefix-long n (c .before .before .before .words2 .result) h short)
+    let start : tie.Start = search in
+    let after-words : tie.After-words = search in
+    let after-words2 : tie.After-words2 = search in
+    let n = start .args .p .n in
+    let short = start .pre .well .short in
+    let v : length (after-words .words .result) ≡ 512 = search needs in
+    let h : length (after-words2 .words2 .result) ≡ 512 = search needs in
+    (start .pre, prefix-long n (after-words .words .result) v short, prefix-long n (after-words2 .words2 .result) h short)
 
 same-length : tie.Need-same-length
 same-length c = search needs

@@ -17,24 +17,58 @@ use Rattle.noise.proofs.Bounds.{first-below, first-values, coins-there}
 use Rattle.noise.proofs.factors.first_with.Statement.{statement}
 use Rattle.noise.proofs.factors.first_with.Tie as tie
 
+-- From a place back to one that is far before it.
+abbrev start-of-h : tie.After-h → tie.Start
+start-of-h c = search
+
+ruleset places = (start-of-h)
+
 -- Bits of the coins plus twice the high part.
-values-are : (c : tie.After-add) → c .add .last .0 ≡ tabulate (c .before .before .before .before .before .before .before .before .before .before .before .before .before .before .before .before .before .before .before .before .args .p .n) (λ x. coefficient 1 (c .before .before .before .before .before .before .before .before .before .before .before .before .before .before .before .before .before .before .before .before .args .p .n) (now (c .before .before .before .before .before .before .before .before .before .before .before .before .before .before .before .before .before .before .before .before .args .coins)) 0 x + 2 * coefficient (highWidth (c .before .before .before .before .before .before .before .before .before .before .before .before .before .before .before .before .before .before .before .before .args .p)) (c .before .before .before .before .before .before .before .before .before .before .before .before .before .before .before .before .before .before .before .before .args .p .n) (now (c .before .before .before .before .before .before .before .before .before .before .before .before .before .before .before .before .before .before .before .before .args .high)) 0 x)
+values-are : (c : tie.After-add) →
+    let start : tie.Start = search in
+    c .add .last .0 ≡ tabulate (start .args .p .n)
+    (λ x. coefficient 1 (start .args .p .n) (now (start .args .coins)) 0 x +
+    2 * coefficient (highWidth (start .args .p)) (start .args .p .n) (now (start .args .high)) 0 x)
 values-are c =
-    let a = c .before .before .before .before .before .before .before .before .before .before .before .before .before .before .before .before .before .before .before .before .args in
+    let a = start .args in
     let p = a .p in
     let coins = now (a .coins) in
     let high = now (a .high) in
-    let W = c .before .before .before .before .before .before .before .before .before .before .before .before .before .before .before .before .before .before .before .before .pre .0 .well in
-    twice-table (p .n) (coefficient 1 (p .n) coins 0) (coefficient (highWidth p) (p .n) high 0) (λ x. omega (arith, first-below p W coins high x, W .small-secrets))
-    (c .before .before .before .before .before .before .before .before .before .before .before .before .before .before .values .ensures) (c .before .before .before .before .before .before .before .before .before .values2 .ensures ∙ ap (λ (w : ℕ). tabulate (p .n) (coefficient (w - 1) (p .n) high 0)) (c .before .before .before .before .before .before .before .before .before .before .before .width .ensures))
-    (c .add .ensures ∙ ap (added (c .before .before .before .before .before .before .before .before .before .before .before .before .before .before .values .last .1 .1 .1 .1 .0)) (c .before .before .before .before .before .raise .ensures))
+    let W = start .pre .0 .well in
+    twice-table (p .n) (coefficient 1 (p .n) coins 0) (coefficient (highWidth p) (p .n) high 0)
+    (λ x. omega (arith, first-below p W coins high x, W .small-secrets))
+    (after-values .values .ensures)
+    (after-values2 .values2 .ensures ∙ ap (λ (w : ℕ). tabulate (p .n) (coefficient (w - 1) (p .n) high 0))
+    (after-width .width .ensures))
+    (c .add .ensures ∙ ap (added (after-values .values .last .1 .1 .1 .1 .0)) (after-raise .raise .ensures))
+  where
+    start : tie.Start
+    start = search
+
+    after-values : tie.After-values
+    after-values = search
+
+    after-width : tie.After-width
+    after-width = search
+
+    after-values2 : tie.After-values2
+    after-values2 = search
+
+    after-raise : tie.After-raise
+    after-raise = search
 
 values-requires : tie.Need-values-requires
 values-requires c κs =
-    let pre = c .before .before .before .before .before .pre in
+    let start : tie.Start = search in
+    let pre = start .pre in
     let W = pre .0 .well in
-    let p = c .before .before .before .before .before .args .p in
-    record { well = W; narrow = omega arith; few = omega arith; there = omega (arith, coins-there p W, pre .0 .coins-long); room-is = pre .1 }
+    record {
+      well = W;
+      narrow = omega arith;
+      few = omega arith;
+      there = omega (arith, coins-there (start .args .p) W, pre .0 .coins-long);
+      room-is = pre .1;
+    }
 
 width-requires : tie.Need-width-requires
 width-requires c κs = search needs
@@ -44,10 +78,12 @@ sub-values c = search needs
 
 values-requires-2 : tie.Need-values-requires-2
 values-requires-2 c κs =
-    let pre = c .before .before .before .before .before .before .before .before .before .before .pre in
+    let start : tie.Start = search in
+    let after-width : tie.After-width = search in
+    let pre = start .pre in
     let W = pre .0 .well in
-    let p = c .before .before .before .before .before .before .before .before .before .before .args .p in
-    let w = c .before .width .ensures in
+    let p = start .args .p in
+    let w = after-width .width .ensures in
     record {
       well = W;
       narrow = rw w (omega (arith, width-bound p W));
@@ -64,11 +100,13 @@ add-requires c κs = search needs
 
 centre-requires : tie.Need-centre-requires
 centre-requires c κs =
-    let pre = c .before .before .before .before .before .before .before .before .before .before .before .before .before .before .before .before .before .before .before .before .before .before .before .before .pre in
-    let p = c .before .before .before .before .before .before .before .before .before .before .before .before .before .before .before .before .before .before .before .before .before .before .before .before .args .p in (
-      rw (values-are (c .before .before .before .before)) (first-values p (pre .0 .well) (now (c .before .before .before .before .before .before .before .before .before .before .before .before .before .before .before .before .before .before .before .before .before .before .before .before .args .coins)) (now (c .before .before .before .before .before .before .before .before .before .before .before .before .before .before .before .before .before .before .before .before .before .before .before .before .args .high))),
+    let start : tie.Start = search in
+    let after-add : tie.After-add = search in
+    let pre = start .pre in
+    let p = start .args .p in (
+      rw (values-are after-add) (first-values p (pre .0 .well) (now (start .args .coins)) (now (start .args .high))),
       omega (arith, pre .0 .well .small-secrets),
-      pre .0 .room-is ∙ sym (ap length (values-are (c .before .before .before .before)) ∙ length-tabulate (p .n) _),
+      pre .0 .room-is ∙ sym (ap length (values-are after-add) ∙ length-tabulate (p .n) _),
     )
 
 same-length : tie.Need-same-length
@@ -82,8 +120,10 @@ same-length-3 c = search needs
 
 returns : tie.Need-returns
 returns c =
-    let p = c .before .before .before .before .before .before .before .before .before .before .before .before .before .before .before .before .before .before .before .before .before .before .before .before .before .before .args .p in
-    c .before .centre .ensures ∙ centred-table (p .p) (p .n) _ (values-are (c .before .before .before .before .before .before))
+    let start : tie.Start = search places in
+    let after-centre : tie.After-centre = search in
+    let p = start .args .p in
+    after-centre .centre .ensures ∙ centred-table (p .p) (p .n) _ (values-are (search))
 
 pub first-with-spec : {M : Type 1} → statement M
 first-with-spec =

@@ -22,33 +22,47 @@ array-borrow-prefix-w c = search needs
 
 slice-aggregate-key-noise-with : tie.Need-slice-aggregate-key-noise-with
 slice-aggregate-key-noise-with c =
-    let room : length (c .before .before .before .words .result) ≡ 512 = search needs in
-    sym (prefix-long (c .before .before .before .before .before .before .before .args .p .n) (c .before .before .before .words .result) room (c .before .before .before .before .before .before .before .pre .well .short))
+    let start : tie.Start = search in
+    let after-words : tie.After-words = search in
+    let room : length (after-words .words .result) ≡ 512 = search needs in
+    sym (prefix-long (start .args .p .n) (after-words .words .result) room (start .pre .well .short))
 
 array-borrow-prefix-r : tie.Need-array-borrow-prefix-r
 array-borrow-prefix-r c = search needs
 
 slice-aggregate-key-noise-with-2 : tie.Need-slice-aggregate-key-noise-with-2
 slice-aggregate-key-noise-with-2 c =
-    let room : length (c .before .before .before .words2 .result) ≡ 512 = search needs in
-    sym (prefix-long (c .before .before .before .before .before .before .before .before .args .p .n) (c .before .before .before .words2 .result) room (c .before .before .before .before .before .before .before .before .pre .well .short))
+    let start : tie.Start = search in
+    let after-words2 : tie.After-words2 = search in
+    let room : length (after-words2 .words2 .result) ≡ 512 = search needs in
+    sym (prefix-long (start .args .p .n) (after-words2 .words2 .result) room (start .pre .well .short))
 
 array-borrow-prefix-v : tie.Need-array-borrow-prefix-v
 array-borrow-prefix-v c = search needs
 
 slice-aggregate-key-noise-with-3 : tie.Need-slice-aggregate-key-noise-with-3
 slice-aggregate-key-noise-with-3 c =
-    let room : length (c .before .before .before .words3 .result) ≡ 512 = search needs in
-    sym (prefix-long (c .before .before .before .before .before .before .before .before .before .args .p .n) (c .before .before .before .words3 .result) room (c .before .before .before .before .before .before .before .before .before .pre .well .short))
+    let start : tie.Start = search in
+    let after-words3 : tie.After-words3 = search in
+    let room : length (after-words3 .words3 .result) ≡ 512 = search needs in
+    sym (prefix-long (start .args .p .n) (after-words3 .words3 .result) room (start .pre .well .short))
 
 key-noise-with-requires : tie.Need-key-noise-with-requires
 key-noise-with-requires c κs =
-    let n = c .before .before .before .before .before .before .before .before .before .before .args .p .n in
-    let short = c .before .before .before .before .before .before .before .before .before .before .pre .well .short in
-    let w : length (c .before .before .before .before .before .before .words .result) ≡ 512 = search needs in
-    let r : length (c .before .before .before .before .before .words2 .result) ≡ 512 = search needs in
-    let v : length (c .before .before .before .before .words3 .result) ≡ 512 = search needs in
-    (c .before .before .before .before .before .before .before .before .before .before .pre, prefix-long n (c .before .before .before .before .before .before .words .result) w short, prefix-long n (c .before .before .before .before .before .words2 .result) r short, prefix-long n (c .before .before .before .before .words3 .result) v short)
+    let start : tie.Start = search in
+    let after-words : tie.After-words = search in
+    let after-words2 : tie.After-words2 = search in
+    let after-words3 : tie.After-words3 = search in
+    let n = start .args .p .n in
+    let short = start .pre .well .short in
+    let w : length (after-words .words .result) ≡ 512 = search needs in
+    let r : length (after-words2 .words2 .result) ≡ 512 = search needs in
+    let v : length (after-words3 .words3 .result) ≡ 512 = search needs in (
+      start .pre,
+      prefix-long n (after-words .words .result) w short,
+      prefix-long n (after-words2 .words2 .result) r short,
+      prefix-long n (after-words3 .words3 .result) v short,
+    )
 
 same-length : tie.Need-same-length
 same-length c = search needs

@@ -45,7 +45,14 @@ sub-result-2 c = rw (plain (c .args .r) (c .pre .2), plain (c .args .p) (c .pre 
 add-result : tie.Need-add-result
 add-result c =
     let h = c .pre in
-    rw (plain (c .args .w) (h .0), plain (c .args .half) (h .1), plain (c .args .r) (h .2), plain (c .args .p) (h .3), toZ-ofZ w16 _ (first c), toZ-ofZ w16 _ (second c))
+    rw (
+      plain (c .args .w) (h .0),
+      plain (c .args .half) (h .1),
+      plain (c .args .r) (h .2),
+      plain (c .args .p) (h .3),
+      toZ-ofZ w16 _ (first c),
+      toZ-ofZ w16 _ (second c),
+    )
     (sum-fits (h .1) (h .0) (h .3) (h .2))
 
 cast-result-5 : tie.Need-cast-result-5
@@ -54,13 +61,31 @@ cast-result-5 c = search needs
 sub-result-3 : tie.Need-sub-result-3
 sub-result-3 c =
     let h = c .pre in
-    rw (plain (c .args .w) (h .0), plain (c .args .half) (h .1), plain (c .args .r) (h .2), plain (c .args .p) (h .3), plain (c .args .low) (h .4), toZ-ofZ w16 _ (first c), toZ-ofZ w16 _ (second c), toZ-ofZ w16 _ (sum-fits (h .1) (h .0) (h .3) (h .2)))
+    rw (
+      plain (c .args .w) (h .0),
+      plain (c .args .half) (h .1),
+      plain (c .args .r) (h .2),
+      plain (c .args .p) (h .3),
+      plain (c .args .low) (h .4),
+      toZ-ofZ w16 _ (first c),
+      toZ-ofZ w16 _ (second c),
+      toZ-ofZ w16 _ (sum-fits (h .1) (h .0) (h .3) (h .2)),
+    )
     (noise-fits (h .1) (h .0) (h .3) (h .2) (h .4))
 
 returns : tie.Need-returns
 returns c =
     let h = c .pre in
-    rw (plain (c .args .w) (h .0), plain (c .args .half) (h .1), plain (c .args .r) (h .2), plain (c .args .p) (h .3), plain (c .args .low) (h .4), toZ-ofZ w16 _ (first c), toZ-ofZ w16 _ (second c), toZ-ofZ w16 _ (sum-fits (h .1) (h .0) (h .3) (h .2)))
+    rw (
+      plain (c .args .w) (h .0),
+      plain (c .args .half) (h .1),
+      plain (c .args .r) (h .2),
+      plain (c .args .p) (h .3),
+      plain (c .args .low) (h .4),
+      toZ-ofZ w16 _ (first c),
+      toZ-ofZ w16 _ (second c),
+      toZ-ofZ w16 _ (sum-fits (h .1) (h .0) (h .3) (h .2)),
+    )
     (toZ-ofZ w16 _ (noise-fits (h .1) (h .0) (h .3) (h .2) (h .4)))
 
 pub key-noise-at-spec : {M : Type 1} → statement M

@@ -21,26 +21,54 @@ use Rattle.noise.proofs.Bounds.{values-below, low-power}
 use Rattle.noise.proofs.factors.key_noise_with.Statement.{statement}
 use Rattle.noise.proofs.factors.key_noise_with.Tie as tie
 
+-- From a place back to one that is far before it.
+abbrev start-of-values2 : tie.After-values2 → tie.Start
+start-of-values2 c = search
+
+ruleset places = (start-of-values2)
+
 -- The values of w_i, of r'_i, and of the low bits of b_i.
-values-are : (c : tie.After-values) → c .values .last .1 .1 .1 .1 .0 ≡ tabulate (c .before .before .before .before .before .before .before .before .args .p .n) (coefficient (c .before .before .before .before .before .before .before .before .args .p .t) (c .before .before .before .before .before .before .before .before .args .p .n) (now (c .before .before .before .before .before .before .before .before .args .stream)) (c .before .before .before .before .before .before .before .before .args .i))
+values-are : (c : tie.After-values) →
+    let start : tie.Start = search in
+    c .values .last .1 .1 .1 .1 .0 ≡ tabulate (start .args .p .n)
+    (coefficient (start .args .p .t) (start .args .p .n) (now (start .args .stream)) (start .args .i))
 values-are c = c .values .ensures
 
-errors-are : (c : tie.After-values2) → c .values2 .last .1 .1 .1 .1 .0 ≡ tabulate (c .before .before .before .before .before .before .before .before .before .before .before .before .before .before .args .p .n) (coefficient (width (c .before .before .before .before .before .before .before .before .before .before .before .before .before .before .args .p)) (c .before .before .before .before .before .before .before .before .before .before .before .before .before .before .args .p .n) (now (c .before .before .before .before .before .before .before .before .before .before .before .before .before .before .args .secrets)) (c .before .before .before .before .before .before .before .before .before .before .before .before .before .before .args .p .l + c .before .before .before .before .before .before .before .before .before .before .before .before .before .before .args .i))
+errors-are : (c : tie.After-values2) →
+    let start : tie.Start = search in
+    c .values2 .last .1 .1 .1 .1 .0 ≡ tabulate (start .args .p .n)
+    (coefficient (width (start .args .p)) (start .args .p .n) (now (start .args .secrets)) (start .args .p .l + start .args .i))
 errors-are c =
-    let a = c .before .before .before .before .before .before .before .before .before .before .before .before .before .before .args in
-    c .values2 .ensures ∙ ap (λ (w : ℕ). tabulate (a .p .n) (coefficient w (a .p .n) (now (a .secrets)) (a .p .l + a .i))) (c .before .before .before .width .ensures)
+    let start : tie.Start = search in
+    let after-width : tie.After-width = search in
+    let a = start .args in
+    c .values2 .ensures ∙ ap (λ (w : ℕ). tabulate (a .p .n) (coefficient w (a .p .n) (now (a .secrets)) (a .p .l + a .i)))
+    (after-width .width .ensures)
 
-low-are : (c : tie.After-reduce) → c .reduce .last .0 ≡ tabulate (c .before .before .before .before .before .before .before .before .before .before .before .before .before .before .before .before .before .before .before .before .before .before .args .p .n) (λ x. coefficient (c .before .before .before .before .before .before .before .before .before .before .before .before .before .before .before .before .before .before .before .before .before .before .args .p .k) (c .before .before .before .before .before .before .before .before .before .before .before .before .before .before .before .before .before .before .before .before .before .before .args .p .n) (now (c .before .before .before .before .before .before .before .before .before .before .before .before .before .before .before .before .before .before .before .before .before .before .args .b)) (c .before .before .before .before .before .before .before .before .before .before .before .before .before .before .before .before .before .before .before .before .before .before .args .i) x % 2 ^ c .before .before .before .before .before .before .before .before .before .before .before .before .before .before .before .before .before .before .before .before .before .before .args .p .t)
+low-are : (c : tie.After-reduce) →
+    let start : tie.Start = search in
+    c .reduce .last .0 ≡ tabulate (start .args .p .n)
+    (λ x. coefficient (start .args .p .k) (start .args .p .n) (now (start .args .b)) (start .args .i) x % 2 ^ start .args .p .t)
 low-are c =
-    let a = c .before .before .before .before .before .before .before .before .before .before .before .before .before .before .before .before .before .before .before .before .before .before .args in
-    c .reduce .ensures ∙ low-table (a .p .t) (a .p .n) (coefficient (a .p .k) (a .p .n) (now (a .b)) (a .i)) (c .before .before .before .before .values3 .ensures)
+    let start : tie.Start = search in
+    let after-values3 : tie.After-values3 = search in
+    let a = start .args in
+    c .reduce .ensures ∙ low-table (a .p .t) (a .p .n) (coefficient (a .p .k) (a .p .n) (now (a .b)) (a .i))
+    (after-values3 .values3 .ensures)
 
 values-requires : tie.Need-values-requires
 values-requires c κs =
-    let pre = c .before .before .before .before .before .before .before .pre in
-    let p = c .before .before .before .before .before .before .before .args .p in
+    let start : tie.Start = search in
+    let pre = start .pre in
+    let p = start .args .p in
     let W = pre .0 .well in
-    record { well = W; narrow = omega (arith, W .few-dropped); few = omega (arith, pre .0 .turn, W .few); there = le-trans (within p (p .t) (pre .0 .turn)) (pre .0 .low-there); room-is = pre .1 }
+    record {
+      well = W;
+      narrow = omega (arith, W .few-dropped);
+      few = omega (arith, pre .0 .turn, W .few);
+      there = le-trans (within p (p .t) (pre .0 .turn)) (pre .0 .low-there);
+      room-is = pre .1;
+    }
 
 width-requires : tie.Need-width-requires
 width-requires c κs = search needs
@@ -50,40 +78,70 @@ add-values c = search needs
 
 values-requires-2 : tie.Need-values-requires-2
 values-requires-2 c κs =
-    let pre = c .before .before .before .before .before .before .before .before .before .before .before .before .before .pre in
-    let p = c .before .before .before .before .before .before .before .before .before .before .before .before .before .args .p in
+    let start : tie.Start = search in
+    let after-width : tie.After-width = search in
+    let pre = start .pre in
+    let p = start .args .p in
     let W = pre .0 .well in
-    let w = c .before .before .width .ensures in
-    record { well = W; narrow = rw w (width-bound p W); few = omega (arith, pre .0 .turn, W .few); there = rw (w, pre .0 .secrets-long) (errors-inside p (pre .0 .turn)); room-is = pre .2 }
+    let w = after-width .width .ensures in
+    record {
+      well = W;
+      narrow = rw w (width-bound p W);
+      few = omega (arith, pre .0 .turn, W .few);
+      there = rw (w, pre .0 .secrets-long) (errors-inside p (pre .0 .turn));
+      room-is = pre .2;
+    }
 
 values-requires-3 : tie.Need-values-requires-3
 values-requires-3 c κs =
-    let pre = c .before .before .before .before .before .before .before .before .before .before .before .before .before .before .before .before .before .pre in
-    let p = c .before .before .before .before .before .before .before .before .before .before .before .before .before .before .before .before .before .args .p in
+    let start : tie.Start = search in
+    let pre = start .pre in
+    let p = start .args .p in
     let W = pre .0 .well in
-    record { well = W; narrow = W .word; few = omega (arith, pre .0 .turn, W .few); there = rw (pre .0 .value-long) (within p (p .k) (pre .0 .turn)); room-is = pre .3 }
+    record {
+      well = W;
+      narrow = W .word;
+      few = omega (arith, pre .0 .turn, W .few);
+      there = rw (pre .0 .value-long) (within p (p .k) (pre .0 .turn));
+      room-is = pre .3;
+    }
 
 reduce-requires : tie.Need-reduce-requires
-reduce-requires c κs = omega (arith, c .before .before .before .before .before .before .before .before .before .before .before .before .before .before .before .before .before .before .before .before .before .pre .0 .well .few-dropped)
+reduce-requires c κs = let start : tie.Start = search in omega (arith, start .pre .0 .well .few-dropped)
 
 combine-requires : tie.Need-combine-requires
 combine-requires c κs =
-    let a = c .before .before .before .before .before .before .before .before .before .before .before .before .before .before .before .before .before .before .before .before .before .before .before .before .before .before .before .before .args in
+    let a = start .args in
     let p = a .p in
-    let pre = c .before .before .before .before .before .before .before .before .before .before .before .before .before .before .before .before .before .before .before .before .before .before .before .before .before .before .before .before .pre .0 in
+    let pre = start .pre .0 in
     let W = pre .well in
-    let w = values-are (c .before .before .before .before .before .before .before .before .before .before .before .before .before .before .before .before .before .before .before .before) in
-    let r = errors-are (c .before .before .before .before .before .before .before .before .before .before .before .before .before .before) in
-    let low = low-are (c .before .before .before .before .before .before) in
+    let w = values-are after-values in
+    let r = errors-are after-values2 in
+    let low = low-are after-reduce in
     record {
       well = W;
       first = ap length w ∙ length-tabulate (p .n) _ ∙ sym (pre .room-is);
       second = ap length r ∙ length-tabulate (p .n) _ ∙ sym (pre .room-is);
       third = ap length low ∙ length-tabulate (p .n) _ ∙ sym (pre .room-is);
       first-small = rw w (values-below 4096 (p .t) (p .n) (now (a .stream)) (a .i) (omega (arith, low-power p W)));
-      second-small = rw r (values-below 4096 (width p) (p .n) (now (a .secrets)) (p .l + a .i) (omega (arith, W .narrow, W .small-secrets)));
-      third-small = rw low (tabulate-below 4096 (p .n) _ (omega arith) (λ x _. omega (arith, low-power p W, mod-lt (coefficient (p .k) (p .n) (now (a .b)) (a .i) x) (pow-pos (p .t)))));
+      second-small = rw r
+          (values-below 4096 (width p) (p .n) (now (a .secrets)) (p .l + a .i) (omega (arith, W .narrow, W .small-secrets)));
+      third-small = rw low
+          (tabulate-below 4096 (p .n) _ (omega arith)
+          (λ x _. omega (arith, low-power p W, mod-lt (coefficient (p .k) (p .n) (now (a .b)) (a .i) x) (pow-pos (p .t)))));
     }
+  where
+    start : tie.Start
+    start = search places
+
+    after-values : tie.After-values
+    after-values = search
+
+    after-values2 : tie.After-values2
+    after-values2 = search
+
+    after-reduce : tie.After-reduce
+    after-reduce = search
 
 same-length : tie.Need-same-length
 same-length c = search needs
@@ -100,11 +158,27 @@ same-length-4 c = search needs
 returns : tie.Need-returns
 unfolding keyNoiseIn
 returns c =
-    let a = c .before .before .before .before .before .before .before .before .before .before .before .before .before .before .before .before .before .before .before .before .before .before .before .before .before .before .before .before .before .before .args in
+    let a = start .args in
     let p = a .p in
-    c .before .combine .ensures
-    ∙ combined-table p (p .n) (coefficient (p .t) (p .n) (now (a .stream)) (a .i)) (coefficient (width p) (p .n) (now (a .secrets)) (p .l + a .i)) (λ x. coefficient (p .k) (p .n) (now (a .b)) (a .i) x % 2 ^ p .t)
-    (values-are (c .before .before .before .before .before .before .before .before .before .before .before .before .before .before .before .before .before .before .before .before .before .before)) (errors-are (c .before .before .before .before .before .before .before .before .before .before .before .before .before .before .before .before)) (low-are (c .before .before .before .before .before .before .before .before))
+    after-combine .combine .ensures
+    ∙ combined-table p (p .n) (coefficient (p .t) (p .n) (now (a .stream)) (a .i))
+    (coefficient (width p) (p .n) (now (a .secrets)) (p .l + a .i)) (λ x. coefficient (p .k) (p .n) (now (a .b)) (a .i) x % 2 ^ p .t)
+    (values-are after-values) (errors-are after-values2) (low-are after-reduce)
+  where
+    start : tie.Start
+    start = search places
+
+    after-values : tie.After-values
+    after-values = search
+
+    after-values2 : tie.After-values2
+    after-values2 = search
+
+    after-reduce : tie.After-reduce
+    after-reduce = search
+
+    after-combine : tie.After-combine
+    after-combine = search
 
 pub key-noise-with-spec : {M : Type 1} → statement M
 key-noise-with-spec =

@@ -18,21 +18,38 @@ use Rattle.noise.proofs.factors.small.Statement.{statement}
 use Rattle.noise.proofs.factors.small.Tie as tie
 
 -- The values, in the first n entries of their room.
-room : (c : tie.After-words) → length (take (c .before .before .args .p .n) (c .words .result)) ≡ c .before .before .args .p .n
+room : (c : tie.After-words) →
+    let start : tie.Start = search in
+    length (take (start .args .p .n) (c .words .result)) ≡ start .args .p .n
 room c =
+    let start : tie.Start = search in
     let words : length (c .words .result) ≡ 512 = search needs in
-    prefix-long (c .before .before .args .p .n) (c .words .result) words (c .before .before .pre .well .short)
+    prefix-long (start .args .p .n) (c .words .result) words (start .pre .well .short)
 
-filled : (c : tie.After-values) → length (c .values .last .1 .1 .1 .1 .0) ≡ c .before .before .before .before .before .args .p .n
-filled c = c .values .kept .1 .1 .1 .1 .0 ∙ room (c .before .before .before)
+filled : (c : tie.After-values) →
+    let start : tie.Start = search in
+    length (c .values .last .1 .1 .1 .1 .0) ≡ start .args .p .n
+filled c = c .values .kept .1 .1 .1 .1 .0 ∙ room (search)
 
-held : (c : tie.After-values) → take (c .before .before .before .before .before .args .p .n) (c .values .last .1 .1 .1 .1 .0 ++ drop (c .before .before .before .before .before .args .p .n) (c .before .before .before .words .result)) ≡ c .values .last .1 .1 .1 .1 .0
-held c = take-at (c .values .last .1 .1 .1 .1 .0) (drop (c .before .before .before .before .before .args .p .n) (c .before .before .before .words .result)) (c .before .before .before .before .before .args .p .n) (filled c)
+held : (c : tie.After-values) →
+    let start : tie.Start = search in
+    let after-words : tie.After-words = search in
+    take (start .args .p .n) (c .values .last .1 .1 .1 .1 .0 ++ drop (start .args .p .n) (after-words .words .result)) ≡
+    c .values .last .1 .1 .1 .1 .0
+held c =
+    let start : tie.Start = search in
+    let after-words : tie.After-words = search in
+    take-at (c .values .last .1 .1 .1 .1 .0) (drop (start .args .p .n) (after-words .words .result)) (start .args .p .n) (filled c)
 
-values-are : (c : tie.After-values) → c .values .last .1 .1 .1 .1 .0 ≡ tabulate (c .before .before .before .before .before .args .p .n) (coefficient (width (c .before .before .before .before .before .args .p)) (c .before .before .before .before .before .args .p .n) (now (c .before .before .before .before .before .args .bytes)) (c .before .before .before .before .before .args .m))
+values-are : (c : tie.After-values) →
+    let start : tie.Start = search in
+    c .values .last .1 .1 .1 .1 .0 ≡ tabulate (start .args .p .n)
+    (coefficient (width (start .args .p)) (start .args .p .n) (now (start .args .bytes)) (start .args .m))
 values-are c =
-    let a = c .before .before .before .before .before .args in
-    c .values .ensures ∙ ap (λ (w : ℕ). tabulate (a .p .n) (coefficient w (a .p .n) (now (a .bytes)) (a .m))) (c .before .before .width .ensures)
+    let start : tie.Start = search in
+    let after-width : tie.After-width = search in
+    let a = start .args in
+    c .values .ensures ∙ ap (λ (w : ℕ). tabulate (a .p .n) (coefficient w (a .p .n) (now (a .bytes)) (a .m))) (after-width .width .ensures)
 
 words-requires : tie.Need-words-requires
 words-requires c κs = search needs
@@ -44,33 +61,39 @@ array-borrow-prefix-v : tie.Need-array-borrow-prefix-v
 array-borrow-prefix-v c = search needs
 
 slice-aggregate-values : tie.Need-slice-aggregate-values
-slice-aggregate-values c = sym (room (c .before .before))
+slice-aggregate-values c = sym (room (search))
 
 values-requires : tie.Need-values-requires
 values-requires c κs =
-    let pre = c .before .before .before .before .pre in
+    let start : tie.Start = search in
+    let after-width : tie.After-width = search in
+    let pre = start .pre in
     let W = pre .well in
     record {
       well = W;
-      narrow = rw (c .before .width .ensures) (width-bound (c .before .before .before .before .args .p) W);
+      narrow = rw (after-width .width .ensures) (width-bound (start .args .p) W);
       few = pre .few;
-      there = rw (c .before .width .ensures) (pre .there);
-      room-is = room (c .before .before);
+      there = rw (after-width .width .ensures) (pre .there);
+      room-is = room (search);
     }
 
 array-share-prefix-v : tie.Need-array-share-prefix-v
-array-share-prefix-v c = simp length-append (omega (arith, filled (c .before)))
+array-share-prefix-v c = simp length-append (omega (arith, filled (search)))
 
 slice-aggregate-centre : tie.Need-slice-aggregate-centre
-slice-aggregate-centre c = sym (ap length (held (c .before .before)) ∙ filled (c .before .before))
+slice-aggregate-centre c =
+    let after-values : tie.After-values = search in
+    sym (ap length (held after-values) ∙ filled after-values)
 
 centre-requires : tie.Need-centre-requires
 centre-requires c κs =
-    let pre = c .before .before .before .before .before .before .before .before .pre in
-    let p = c .before .before .before .before .before .before .before .before .args .p in (
-      rw (held (c .before .before .before) ∙ values-are (c .before .before .before)) (small-values p (pre .well) (now (c .before .before .before .before .before .before .before .before .args .bytes)) (c .before .before .before .before .before .before .before .before .args .m)),
+    let start : tie.Start = search in
+    let after-values : tie.After-values = search in
+    let pre = start .pre in (
+      rw (held after-values ∙ values-are after-values)
+          (small-values (start .args .p) (pre .well) (now (start .args .bytes)) (start .args .m)),
       omega (arith, pre .well .small-secrets),
-      pre .room-is ∙ sym (ap length (held (c .before .before .before)) ∙ filled (c .before .before .before)),
+      pre .room-is ∙ sym (ap length (held after-values) ∙ filled after-values),
     )
 
 same-length : tie.Need-same-length
@@ -78,8 +101,12 @@ same-length c = search needs
 
 returns : tie.Need-returns
 returns c =
-    let p = c .before .before .before .before .before .before .before .before .before .before .args .p in
-    c .before .centre .ensures ∙ centred-table (p .p) (p .n) (coefficient (width p) (p .n) (now (c .before .before .before .before .before .before .before .before .before .before .args .bytes)) (c .before .before .before .before .before .before .before .before .before .before .args .m)) (held (c .before .before .before .before .before) ∙ values-are (c .before .before .before .before .before))
+    let start : tie.Start = search in
+    let after-values : tie.After-values = search in
+    let after-centre : tie.After-centre = search in
+    let p = start .args .p in
+    after-centre .centre .ensures ∙ centred-table (p .p) (p .n) (coefficient (width p) (p .n) (now (start .args .bytes)) (start .args .m))
+    (held after-values ∙ values-are after-values)
 
 pub small-spec : {M : Type 1} → statement M
 small-spec =

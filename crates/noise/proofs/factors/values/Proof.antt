@@ -29,23 +29,33 @@ part-unpack-end c = search needs
 
 unpack-requires : tie.Need-unpack-requires
 unpack-requires c κs =
-    let pre = c .before .before .before .before .before .pre in
-    let a = c .before .before .before .before .before .args in
-    let p = a .p in
-    (pre .narrow, reads-rest p (pre .well) 1 (a .w) (c .before .before .length-of .result) (now (a .bytes)) (pre .room-is ∙ sym (one-mul (p .n))) (omega (arith, pre .there, c .before .before .length-of .ensures .0)))
+    let start : tie.Start = search in
+    let after-length-of : tie.After-length-of = search in
+    let pre = start .pre in
+    let a = start .args in
+    let p = a .p in (
+      pre .narrow,
+      reads-rest p (pre .well) 1 (a .w) (after-length-of .length-of .result) (now (a .bytes))
+          (pre .room-is ∙ sym (one-mul (p .n))) (omega (arith, pre .there, after-length-of .length-of .ensures .0)),
+    )
 
 same-length : tie.Need-same-length
 same-length c = search needs
 
 returns : tie.Need-returns
 returns c =
-    let pre = c .before .before .before .before .before .before .before .before .pre in
-    let a = c .before .before .before .before .before .before .before .before .args in
+    let start : tie.Start = search in
+    let after-shared-slice-known : tie.After-shared-slice-known = search in
+    let after-length-of : tie.After-length-of = search in
+    let after-unpack : tie.After-unpack = search in
+    let pre = start .pre in
+    let a = start .args in
     let bytes = now (a .bytes) in
-    let below : Below 256 bytes = λ i. c .before .before .before .before .before .before .before .shared-slice-known .given i .fits in
-    let at : ℕ = c .before .before .before .before .before .length-of .result in
-    c .before .before .unpack .ensures
-    ∙ ap₂ (λ (m : ℕ) (l : List ℕ). unpack (a .w) m l) (pre .room-is) (take-rest at bytes ∙ ap (λ (m : ℕ). drop m bytes) (c .before .before .before .before .before .length-of .ensures .0))
+    let below : Below 256 bytes = λ i. after-shared-slice-known .shared-slice-known .given i .fits in
+    let at : ℕ = after-length-of .length-of .result in
+    after-unpack .unpack .ensures
+    ∙ ap₂ (λ (m : ℕ) (l : List ℕ). unpack (a .w) m l) (pre .room-is)
+    (take-rest at bytes ∙ ap (λ (m : ℕ). drop m bytes) (after-length-of .length-of .ensures .0))
     ∙ unpack-from (a .p) (pre .well) (a .w) (a .p .n) (a .m) bytes below
 
 pub values-spec : {M : Type 1} → statement M

@@ -21,27 +21,53 @@ use Rattle.noise.proofs.Streams.{accumulated}
 use Rattle.noise.proofs.sums.accumulate.Statement.{statement}
 use Rattle.noise.proofs.sums.accumulate.Tie as tie
 
+-- From a place back to one that is far before it.
+abbrev start-of-low : tie.After-low → tie.Start
+start-of-low c = search
+
+abbrev high-of-add-errors : tie.After-add-errors → tie.After-high
+high-of-add-errors c = search
+
+ruleset places = (start-of-low, high-of-add-errors)
+
 -- The masked message in the stream.
-masked-long : (c : tie.After-padded) → length (take (c .before .low .result + c .padded .result - c .before .low .result) (drop (c .before .low .result) (now (c .before .before .before .before .before .before .args .stream)))) ≡ paddedLength (c .before .before .before .before .before .before .args .p)
+masked-long : (c : tie.After-padded) →
+    let start : tie.Start = search in
+    let after-low : tie.After-low = search in
+    length (take (after-low .low .result + c .padded .result - after-low .low .result)
+    (drop (after-low .low .result) (now (start .args .stream)))) ≡ paddedLength (start .args .p)
 masked-long c =
-    part-length (c .before .low .result) (c .padded .result) (now (c .before .before .before .before .before .before .args .stream)) (omega (arith, c .before .low .ensures .0, c .padded .ensures .0, c .before .before .before .before .before .before .pre .0 .stream-long)) ∙ c .padded .ensures .0
+    let start : tie.Start = search in
+    let after-low : tie.After-low = search in
+    part-length (after-low .low .result) (c .padded .result) (now (start .args .stream))
+    (omega (arith, after-low .low .ensures .0, c .padded .ensures .0, start .pre .0 .stream-long)) ∙ c .padded .ensures .0
 
 -- The sum of e_j·r_j and the last error are small.
-sum-long : (c : tie.After-add-errors) → length (c .add-errors .last .1 .1 .1 .1 .1 .0) ≡ c .before .before .before .before .before .before .before .before .before .before .before .before .args .p .n
-sum-long c = c .add-errors .kept .1 .1 .1 .1 .1 .0 ∙ ap length (c .before .before .before .before .before .before .before .before .before .before .before .before .pre .3) ∙ length-replicate (c .before .before .before .before .before .before .before .before .before .before .before .before .args .p .n) (pos 0)
+sum-long : (c : tie.After-add-errors) →
+    let start : tie.Start = search in
+    length (c .add-errors .last .1 .1 .1 .1 .1 .0) ≡ start .args .p .n
+sum-long c =
+    let start : tie.Start = search in
+    c .add-errors .kept .1 .1 .1 .1 .1 .0 ∙ ap length (start .pre .3) ∙ length-replicate (start .args .p .n) (pos 0)
 
 errors-small : (c : tie.After-add-errors) → largest (c .add-errors .last .1 .1 .1 .1 .1 .0) ≤ 262144
 errors-small c =
-    let a = c .before .before .before .before .before .before .before .before .before .before .before .before .args in
+    let start : tie.Start = search in
+    let after-low : tie.After-low = search in
+    let after-padded : tie.After-padded = search in
+    let a = start .args in
     let p = a .p in
-    let W = c .before .before .before .before .before .before .before .before .before .before .before .before .pre .0 .well in
-    let mid : List ℕ = take (c .before .before .before .before .before .before .before .low .result + c .before .before .before .before .before .before .padded .result - c .before .before .before .before .before .before .before .low .result) (drop (c .before .before .before .before .before .before .before .low .result) (now (a .stream))) in
-    errors-size (p .l) (p .n) (noiseMost p) (p .p) (smallIn p mid) (smallIn p (now (a .secrets))) (c .before .before .before .before .before .before .before .before .before .before .before .before .pre .3) (W .few) (W .noise-words) (error-sized p W mid) (small-sized p W (now (a .secrets))) (c .add-errors .ensures)
+    let W = start .pre .0 .well in
+    let mid : List ℕ = take (after-low .low .result + after-padded .padded .result - after-low .low .result)
+    (drop (after-low .low .result) (now (a .stream))) in
+    errors-size (p .l) (p .n) (noiseMost p) (p .p) (smallIn p mid) (smallIn p (now (a .secrets))) (start .pre .3) (W .few) (W .noise-words)
+    (error-sized p W mid) (small-sized p W (now (a .secrets))) (c .add-errors .ensures)
 
 last-small : (c : tie.After-small) → largest (c .small .last .1 .1 .1 .0) ≤ 64
 last-small c =
-    let p = c .before .before .before .before .before .before .before .before .before .before .before .before .before .before .before .before .before .before .args .p in
-    let W = c .before .before .before .before .before .before .before .before .before .before .before .before .before .before .before .before .before .before .pre .0 .well in
+    let start : tie.Start = search in
+    let p = start .args .p in
+    let W = start .pre .0 .well in
     rw (c .small .ensures) (le-trans (largest-table (p .n) (p .p) _ (small-sized p W _ _)) (W .small-secrets))
 
 low-requires : tie.Need-low-requires
@@ -70,11 +96,18 @@ part-add-errors-end c = search needs
 
 add-errors-requires : tie.Need-add-errors-requires
 add-errors-requires c κs =
-    let pre = c .before .before .before .before .before .before .before .before .before .before .before .pre in
-    let p = c .before .before .before .before .before .before .before .before .before .before .before .args .p in
-    let none : largest (now (c .before .before .before .before .before .before .before .before .before .before .before .args .acc)) ≡ 0 = ap largest (pre .3) ∙ largest-zeros (p .n) in (
-      record { well = pre .0 .well; first = pre .1; second = pre .2; sum = ap length (pre .3) ∙ length-replicate (p .n) (pos 0); small = omega (arith, none) },
-      record { masked-long = masked-long (c .before .before .before .before .before); secrets-long = pre .0 .secrets-long },
+    let start : tie.Start = search in
+    let pre = start .pre in
+    let p = start .args .p in
+    let none : largest (now (start .args .acc)) ≡ 0 = ap largest (pre .3) ∙ largest-zeros (p .n) in (
+      record {
+        well = pre .0 .well;
+        first = pre .1;
+        second = pre .2;
+        sum = ap length (pre .3) ∙ length-replicate (p .n) (pos 0);
+        small = omega (arith, none);
+      },
+      record { masked-long = masked-long (search); secrets-long = pre .0 .secrets-long },
     )
 
 sub-small : tie.Need-sub-small
@@ -88,15 +121,28 @@ part-small-end c = search needs
 
 small-requires : tie.Need-small-requires
 small-requires c κs =
-    let pre = c .before .before .before .before .before .before .before .before .before .before .before .before .before .before .before .before .before .pre in
-    let p = c .before .before .before .before .before .before .before .before .before .before .before .before .before .before .before .before .before .args .p in
+    let start : tie.Start = search in
+    let after-add-errors : tie.After-add-errors = search in
+    let pre = start .pre in
+    let p = start .args .p in
     let W = pre .0 .well in
-    record { well = W; narrow = width-bound p W; few = omega (arith, W .few); there = rw (masked-long (c .before .before .before .before .before .before .before .before .before .before .before)) (within p (width p) (omega arith)); room-is = c .before .before .before .before .before .add-errors .kept .1 .1 .1 .0 ∙ pre .1 }
+    record {
+      well = W;
+      narrow = width-bound p W;
+      few = omega (arith, W .few);
+      there = rw (masked-long (search)) (within p (width p) (omega arith));
+      room-is = after-add-errors .add-errors .kept .1 .1 .1 .0 ∙ pre .1;
+    }
 
 subtract-from-requires : tie.Need-subtract-from-requires
 subtract-from-requires c κs =
-    let pre = c .before .before .before .before .before .before .before .before .before .before .before .before .before .before .before .before .before .before .before .before .before .pre in
-    (c .before .before .before .small .kept .1 .1 .1 .0 ∙ c .before .before .before .before .before .before .before .before .before .add-errors .kept .1 .1 .1 .0 ∙ pre .1 ∙ sym (sum-long (c .before .before .before .before .before .before .before .before .before)), omega (arith, last-small (c .before .before .before), errors-small (c .before .before .before .before .before .before .before .before .before)))
+    let start : tie.Start = search in
+    let after-add-errors : tie.After-add-errors = search in
+    let after-small : tie.After-small = search in (
+      after-small .small .kept .1 .1 .1 .0 ∙ after-add-errors .add-errors .kept .1 .1 .1 .0 ∙ start .pre .1 ∙
+          sym (sum-long after-add-errors),
+      omega (arith, last-small after-small, errors-small after-add-errors),
+    )
 
 sub-add-keys : tie.Need-sub-add-keys
 sub-add-keys c = search needs
@@ -118,18 +164,31 @@ part-add-keys-end-2 c = search needs
 
 add-keys-requires : tie.Need-add-keys-requires
 add-keys-requires c κs =
-    let pre = c .before .before .before .before .before .before .before .before .before .before .before .before .before .before .before .before .before .before .before .before .before .before .before .before .before .before .before .before .pre in
-    let p = c .before .before .before .before .before .before .before .before .before .before .before .before .before .before .before .before .before .before .before .before .before .before .before .before .before .before .before .before .args .p in
-    let X = now (c .before .before .before .before .before .before .before .before .before .before .before .before .before .before .before .before .before .before .before .before .before .before .before .before .before .before .before .before .args .stream) in
-    let ea = c .before .before .before .before .before .before .before .before .before .before .before .before .before .before .before .before .before .before .before .before .before .before .before .low .ensures .0 in
-    let ek = c .before .before .before .before .before .before .before .before .before .before .before .before .before .before .before .before .before .before .before .before .before .before .padded .ensures .0 in
-    let eh = c .before .before .before .before .before .before .before .before .before .before .before .before .before .before .before .before .before .before .before .before .before .high .ensures .0 in (
+    let after-subtract-from : tie.After-subtract-from = search in
+    let after-small : tie.After-small = search in
+    let after-add-errors : tie.After-add-errors = search in
+    let after-high : tie.After-high = search in
+    let after-padded : tie.After-padded = search in
+    let after-low : tie.After-low = search in
+    let start : tie.Start = search places in
+    let pre = start .pre in
+    let p = start .args .p in
+    let X = now (start .args .stream) in
+    let ea = after-low .low .ensures .0 in
+    let ek = after-padded .padded .ensures .0 in (
       record {
         well = pre .0 .well;
-        first = c .before .before .before .before .before .before .before .before .before .before .small .kept .1 .1 .1 .0 ∙ c .before .before .before .before .before .before .before .before .before .before .before .before .before .before .before .before .add-errors .kept .1 .1 .1 .0 ∙ pre .1;
-        second = c .before .before .before .before .before .before .before .before .before .before .before .before .before .before .before .before .add-errors .kept .1 .1 .1 .1 .0 ∙ pre .2;
-        sum = c .before .before .before .before .before .before .subtract-from .kept .1 .0 ∙ sum-long (c .before .before .before .before .before .before .before .before .before .before .before .before .before .before .before .before);
-        small = omega (arith, rest-size (length (c .before .before .before .before .before .before .before .before .before .before .before .before .before .before .before .before .add-errors .last .1 .1 .1 .1 .1 .0)) (c .before .before .before .before .before .before .before .before .before .before .small .last .1 .1 .1 .0) (c .before .before .before .before .before .before .before .before .before .before .before .before .before .before .before .before .add-errors .last .1 .1 .1 .1 .1 .0) (c .before .before .before .before .before .before .subtract-from .ensures), last-small (c .before .before .before .before .before .before .before .before .before .before), errors-small (c .before .before .before .before .before .before .before .before .before .before .before .before .before .before .before .before));
+        first = after-small .small .kept .1 .1 .1 .0 ∙ after-add-errors .add-errors .kept .1 .1 .1 .0 ∙ pre .1;
+        second = after-add-errors .add-errors .kept .1 .1 .1 .1 .0 ∙ pre .2;
+        sum = after-subtract-from .subtract-from .kept .1 .0 ∙ sum-long after-add-errors;
+        small = omega (
+          arith,
+          rest-size (length (after-add-errors .add-errors .last .1 .1 .1 .1 .1 .0))
+              (after-small .small .last .1 .1 .1 .0) (after-add-errors .add-errors .last .1 .1 .1 .1 .1 .0)
+              (after-subtract-from .subtract-from .ensures),
+          last-small after-small,
+          errors-small after-add-errors,
+        );
       },
       record {
         value-long = pre .0 .value-long;
@@ -137,7 +196,7 @@ add-keys-requires c κs =
         secrets-long = pre .0 .secrets-long;
         low-there = omega (arith, pre .0 .stream-long);
         high-there = rw (take-rest _ X, length-drop _ X) (omega (arith, ea, ek, pre .0 .stream-long));
-        rest-there = rw (take-rest _ X, length-drop _ X) (omega (arith, ea, ek, eh, pre .0 .stream-long));
+        rest-there = rw (take-rest _ X, length-drop _ X) (omega (arith, ea, ek, (after-high .high .ensures .0), pre .0 .stream-long));
       },
     )
 
@@ -152,9 +211,20 @@ same-length-3 c = search needs
 
 returns : tie.Need-returns
 returns c =
-    let a = c .before .before .before .before .before .before .before .before .before .before .before .before .before .before .before .before .before .before .before .before .before .before .before .before .before .before .before .before .before .before .before .before .args in
-    accumulated (a .p) (now (a .b)) (now (a .coins)) (now (a .secrets)) (now (a .stream)) (c .before .before .before .before .before .before .before .before .before .before .before .before .before .before .before .before .before .before .before .before .before .before .before .before .before .before .before .low .result) (c .before .before .before .before .before .before .before .before .before .before .before .before .before .before .before .before .before .before .before .before .before .before .before .before .before .before .padded .result) (c .before .before .before .before .before .before .before .before .before .before .before .before .before .before .before .before .before .before .before .before .before .before .before .before .before .high .result)
-    (c .before .before .before .before .before .before .before .before .before .before .before .before .before .before .before .before .before .before .before .before .before .before .before .before .before .before .before .low .ensures .0) (c .before .before .before .before .before .before .before .before .before .before .before .before .before .before .before .before .before .before .before .before .before .before .before .before .before .before .padded .ensures .0) (c .before .before .before .before .before .before .before .before .before .before .before .before .before .before .before .before .before .before .before .before .before .before .before .before .before .high .ensures .0) (c .before .before .before .before .before .before .before .before .before .before .before .before .before .before .before .before .before .before .before .before .before .before .before .before .before .before .before .before .before .before .before .before .pre .3) (c .before .before .before .before .before .before .before .before .before .before .before .before .before .before .before .before .before .before .before .before .add-errors .ensures) (c .before .before .before .before .before .before .before .before .before .before .before .before .before .before .small .ensures) (c .before .before .before .before .before .before .before .before .before .before .subtract-from .ensures) (c .before .before .before .add-keys .ensures)
+    let after-add-keys : tie.After-add-keys = search in
+    let after-subtract-from : tie.After-subtract-from = search in
+    let after-small : tie.After-small = search in
+    let after-add-errors : tie.After-add-errors = search in
+    let after-high : tie.After-high = search places in
+    let after-padded : tie.After-padded = search in
+    let after-low : tie.After-low = search in
+    let start : tie.Start = search places in
+    let a = start .args in
+    accumulated (a .p) (now (a .b)) (now (a .coins)) (now (a .secrets)) (now (a .stream)) (after-low .low .result)
+    (after-padded .padded .result) (after-high .high .result)
+    (after-low .low .ensures .0) (after-padded .padded .ensures .0) (after-high .high .ensures .0) (start .pre .3)
+    (after-add-errors .add-errors .ensures) (after-small .small .ensures) (after-subtract-from .subtract-from .ensures)
+    (after-add-keys .add-keys .ensures)
 
 pub accumulate-spec : {M : Type 1} → statement M
 accumulate-spec =

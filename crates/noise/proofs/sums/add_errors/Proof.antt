@@ -16,73 +16,123 @@ use Rattle.noise.proofs.sums.add_errors.Statement.{statement}
 use Rattle.noise.proofs.sums.add_errors.Tie as tie
 
 abbrev Inv-loop : tie.InvT-loop
-Inv-loop p masked secrets x₀ s₀ acc₀ j₀ x s acc j = (j ≤ p .l) × (length x ≡ length x₀) × (length s ≡ length s₀) × (acc ≡ partial (p .n) acc₀ (smallIn p masked) (smallIn p secrets) j)
+Inv-loop p masked secrets x₀ s₀ acc₀ j₀ x s acc j =
+    (j ≤ p .l) × (length x ≡ length x₀) × (length s ≡ length s₀) × (acc ≡ partial (p .n) acc₀ (smallIn p masked) (smallIn p secrets) j)
 
 abbrev μ-loop : tie.MeasureT-loop
 μ-loop p masked secrets x₀ s₀ acc₀ j₀ x s acc j = p .l - j
 
+-- The places of the code that the answers name.
+abbrev Start : Type 0
+Start = tie.Start Inv-loop μ-loop
+
+abbrev Turn : Type 0
+Turn = tie.At-loop Inv-loop μ-loop
+
+abbrev After-small : Type 0
+After-small = tie.After-small Inv-loop μ-loop
+
+abbrev After-small2 : Type 0
+After-small2 = tie.After-small2 Inv-loop μ-loop
+
 loop-holds : tie.Need-loop-holds Inv-loop μ-loop
-loop-holds c = (omega arith, refl, refl, partial-none (c .before .before .args .p .n) (now (c .before .before .args .acc)) _ _ (c .before .before .pre .0 .sum))
+loop-holds c =
+    let start : Start = search in
+    (omega arith, refl, refl, partial-none (start .args .p .n) (now (start .args .acc)) _ _ (start .pre .0 .sum))
 
 small-requires : tie.Need-small-requires Inv-loop μ-loop
 small-requires c κs =
-    let p = c .before .before .before .before .before .before .args .p in
-    let pre = c .before .before .before .before .before .before .pre in
+    let start : Start = search in
+    let at-loop : Turn = search in
+    let p = start .args .p in
+    let pre = start .pre in
     let W = pre .0 .well in
-    let h = c .before .before .before .loop in
+    let h = at-loop .loop in
     let turn : h .j < p .l = omega arith in
-    record { well = W; narrow = width-bound p W; few = omega (arith, W .few); there = rw (pre .1 .masked-long) (within p (width p) (omega arith)); room-is = h .inv .1 ∙ pre .0 .first }
+    record {
+      well = W;
+      narrow = width-bound p W;
+      few = omega (arith, W .few);
+      there = rw (pre .1 .masked-long) (within p (width p) (omega arith));
+      room-is = h .inv .1 ∙ pre .0 .first;
+    }
 
 small-requires-2 : tie.Need-small-requires-2 Inv-loop μ-loop
 small-requires-2 c κs =
-    let p = c .before .before .before .before .before .before .before .before .before .args .p in
-    let pre = c .before .before .before .before .before .before .before .before .before .pre in
+    let start : Start = search in
+    let at-loop : Turn = search in
+    let p = start .args .p in
+    let pre = start .pre in
     let W = pre .0 .well in
-    let h = c .before .before .before .before .before .before .loop in
+    let h = at-loop .loop in
     let turn : h .j < p .l = omega arith in
-    record { well = W; narrow = width-bound p W; few = omega (arith, W .few); there = rw (pre .1 .secrets-long) (within p (width p) (omega arith)); room-is = h .inv .2 ∙ pre .0 .second }
+    record {
+      well = W;
+      narrow = width-bound p W;
+      few = omega (arith, W .few);
+      there = rw (pre .1 .secrets-long) (within p (width p) (omega arith));
+      room-is = h .inv .2 ∙ pre .0 .second;
+    }
 
 multiply-add-requires : tie.Need-multiply-add-requires Inv-loop μ-loop
 multiply-add-requires c κs =
-    let a = c .before .before .before .before .before .before .before .before .before .before .before .before .before .before .args in
+    let start : Start = search in
+    let turn : Turn = search in
+    let after-small : After-small = search in
+    let after-small2 : After-small2 = search in
+    let a = start .args in
     let p = a .p in
-    let pre = c .before .before .before .before .before .before .before .before .before .before .before .before .before .before .pre .0 in
+    let pre = start .pre .0 in
     let W = pre .well in
-    let h = c .before .before .before .before .before .before .before .before .before .before .before .loop in
-    factors (p .l) (p .n) (noiseMost p) (p .p) (now (a .acc)) (smallIn p (now (a .masked))) (smallIn p (now (a .secrets))) (h .j) (omega arith) (W .few) (W .some-coefficients) (W .short) (some-noise p W) (some-small p W) (W .noise-words) (pre .small) (error-sized p W (now (a .masked))) (small-sized p W (now (a .secrets)))
-    (h .inv .3) (c .before .before .before .before .before .before .before .small .ensures) (c .before .before .before .before .small2 .ensures)
+    let h = turn .loop in
+    factors (p .l) (p .n) (noiseMost p) (p .p) (now (a .acc)) (smallIn p (now (a .masked))) (smallIn p (now (a .secrets))) (h .j)
+    (omega arith) (W .few) (W .some-coefficients) (W .short) (some-noise p W) (some-small p W) (W .noise-words) (pre .small)
+    (error-sized p W (now (a .masked))) (small-sized p W (now (a .secrets)))
+    (h .inv .3) (after-small .small .ensures) (after-small2 .small2 .ensures)
 
 add-j : tie.Need-add-j Inv-loop μ-loop
-add-j c = omega (arith, c .before .before .before .before .before .before .before .before .before .before .before .before .before .before .before .before .pre .0 .well .few)
+add-j c = let start : Start = search in omega (arith, start .pre .0 .well .few)
 
 loop-less : tie.Need-loop-less Inv-loop μ-loop
 loop-less c = turn-less (omega arith)
 
 loop-again : tie.Need-loop-again Inv-loop μ-loop
 loop-again c =
-    let a = c .before .before .before .before .before .before .before .before .before .before .before .before .before .before .before .before .args in
+    let start : Start = search in
+    let turn : Turn = search in
+    let after-small : After-small = search in
+    let after-small2 : After-small2 = search in
+    let after-multiply-add : tie.After-multiply-add Inv-loop μ-loop = search in
+    let a = start .args in
     let p = a .p in
-    let h = c .before .before .before .before .before .before .before .before .before .before .before .before .before .loop in (
+    let h = turn .loop in (
       omega arith,
-      c .before .before .before .before .before .before .before .before .before .small .kept .1 .1 .1 .0 ∙ h .inv .1,
-      c .before .before .before .before .before .before .small2 .kept .1 .1 .1 .0 ∙ h .inv .2,
-      c .before .multiply-add .ensures ∙ partial-more (p .n) (now (a .acc)) (smallIn p (now (a .masked))) (smallIn p (now (a .secrets))) (h .j) (h .inv .3) (c .before .before .before .before .before .before .before .before .before .small .ensures) (c .before .before .before .before .before .before .small2 .ensures),
+      after-small .small .kept .1 .1 .1 .0 ∙ h .inv .1,
+      after-small2 .small2 .kept .1 .1 .1 .0 ∙ h .inv .2,
+      after-multiply-add .multiply-add .ensures ∙
+          partial-more (p .n) (now (a .acc)) (smallIn p (now (a .masked))) (smallIn p (now (a .secrets))) (h .j) (h .inv .3)
+          (after-small .small .ensures) (after-small2 .small2 .ensures),
     )
 
 same-length : tie.Need-same-length Inv-loop μ-loop
-same-length c = c .before .before .loop .inv .1
+same-length c = let turn : Turn = search in turn .loop .inv .1
 
 same-length-2 : tie.Need-same-length-2 Inv-loop μ-loop
-same-length-2 c = c .before .before .loop .inv .2
+same-length-2 c = let turn : Turn = search in turn .loop .inv .2
 
 same-length-3 : tie.Need-same-length-3 Inv-loop μ-loop
-same-length-3 c = ap length (c .before .before .loop .inv .3) ∙ length-tabulate (c .before .before .before .before .before .args .p .n) _ ∙ sym (c .before .before .before .before .before .pre .0 .sum)
+same-length-3 c =
+    let start : Start = search in
+    let turn : Turn = search in
+    ap length (turn .loop .inv .3) ∙ length-tabulate (start .args .p .n) _ ∙ sym (start .pre .0 .sum)
 
 returns : tie.Need-returns Inv-loop μ-loop
 returns c =
-    let a = c .before .before .before .before .before .args in
+    let start : Start = search in
+    let turn : Turn = search in
+    let a = start .args in
     let p = a .p in
-    let h = c .before .before .loop in
+    let h = turn .loop in
     let all : h .j ≡ p .l = omega arith in
     h .inv .3 ∙ ap (partial (p .n) (now (a .acc)) (smallIn p (now (a .masked))) (smallIn p (now (a .secrets)))) all
 

@@ -23,10 +23,12 @@ cast-result c = search needs
 
 returns : tie.Need-returns
 returns c =
-    let p = c .before .before .args .p in
-    let W = c .before .before .pre in
+    let start : tie.Start = search in
+    let p = start .args .p in
+    let W = start .pre in
     let most : 2 ^ (p .k - 2) ≤ 2 ^ 14 = pow-mono {i = p .k - 2} {j = 14} (omega (arith, W .word)) in
-    toZ-pos w32 (c .power .result) (omega (arith, most, c .power .ensures)) ∙ ap pos (c .power .ensures ∙ quarter-power (p .k) (W .quarters))
+    toZ-pos w32 (c .power .result) (omega (arith, most, c .power .ensures)) ∙
+    ap pos (c .power .ensures ∙ quarter-power (p .k) (W .quarters))
 
 pub quarter-spec : {M : Type 1} → statement M
 quarter-spec = tie.close (tie.spec sub-power power-requires cast-result returns)

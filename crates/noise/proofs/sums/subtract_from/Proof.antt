@@ -21,6 +21,16 @@ Inv-loop x acc₀ k₀ acc k = (k ≤ length acc₀) × (length acc ≡ length a
 abbrev μ-loop : tie.MeasureT-loop
 μ-loop x acc₀ k₀ acc k = length acc₀ - k
 
+-- The places of the code that the answers name.
+abbrev Start : Type 0
+Start = tie.Start Inv-loop μ-loop
+
+abbrev Turn : Type 0
+Turn = tie.At-loop Inv-loop μ-loop
+
+abbrev After-less-arg : Type 0
+After-less-arg = tie.After-less-arg Inv-loop μ-loop
+
 loop-holds : tie.Need-loop-holds Inv-loop μ-loop
 loop-holds c = (omega arith, refl, filled-none _ _)
 
@@ -38,14 +48,17 @@ slice-copy-out-less c = omega arith
 
 less-requires : tie.Need-less-requires Inv-loop μ-loop
 less-requires c κs =
-    let h = c .before .before .before .loop in
-    let a = c .before .before .before .before .args in
+    let start : Start = search in
+    let turn : Turn = search in
+    let after-less-arg : After-less-arg = search in
+    let h = turn .loop in
+    let a = start .args in
     let x = getD (now (a .x)) (h .k) (pos 0) in
     let y = getD (h .acc) (h .k) (pos 0) in
-    let sx : toZ w16 (ofZ w16 x) ≡ x = toZ-ofZ w16 x (record { sfits = c .before .less-arg .given }) in
+    let sx : toZ w16 (ofZ w16 x) ≡ x = toZ-ofZ w16 x (record { sfits = after-less-arg .less-arg .given }) in
     let sy : toZ w32 (ofZ w32 y) ≡ y = toZ-ofZ w32 y (record { sfits = c .less-arg2 .given }) in
     let there : y ≡ ofInts (now (a .acc)) (h .k) = filled-at (h .k) (h .k) _ (now (a .acc)) (pos 0) (omega arith) (h .inv .2) in
-    rw (sx, sy, there) (omega (arith, le-largest (now (a .x)) (h .k), le-largest (now (a .acc)) (h .k), c .before .before .before .before .pre .1))
+    rw (sx, sy, there) (omega (arith, le-largest (now (a .x)) (h .k), le-largest (now (a .acc)) (h .k), start .pre .1))
 
 mul-t12 : tie.Need-mul-t12 Inv-loop μ-loop
 mul-t12 c = omega arith
@@ -61,12 +74,16 @@ loop-less c = omega arith
 
 loop-again : tie.Need-loop-again Inv-loop μ-loop
 loop-again c =
-    let h = c .before .before .before .before .loop in
-    let a = c .before .before .before .before .before .args in
+    let start : Start = search in
+    let turn : Turn = search in
+    let after-less-arg : After-less-arg = search in
+    let after-less-arg2 : tie.After-less-arg2 Inv-loop μ-loop = search in
+    let h = turn .loop in
+    let a = start .args in
     let x = getD (now (a .x)) (h .k) (pos 0) in
     let y = getD (h .acc) (h .k) (pos 0) in
-    let sx : toZ w16 (ofZ w16 x) ≡ x = toZ-ofZ w16 x (record { sfits = c .before .before .less-arg .given }) in
-    let sy : toZ w32 (ofZ w32 y) ≡ y = toZ-ofZ w32 y (record { sfits = c .before .less-arg2 .given }) in
+    let sx : toZ w16 (ofZ w16 x) ≡ x = toZ-ofZ w16 x (record { sfits = after-less-arg .less-arg .given }) in
+    let sy : toZ w32 (ofZ w32 y) ≡ y = toZ-ofZ w32 y (record { sfits = after-less-arg2 .less-arg2 .given }) in
     let there : y ≡ ofInts (now (a .acc)) (h .k) = filled-at (h .k) (h .k) _ (now (a .acc)) (pos 0) (omega arith) (h .inv .2) in (
       omega arith,
       simp length-set (h .inv .1),
@@ -75,13 +92,16 @@ loop-again c =
     )
 
 same-length : tie.Need-same-length Inv-loop μ-loop
-same-length c = c .before .loop .inv .1
+same-length c = let turn : Turn = search in turn .loop .inv .1
 
 returns : tie.Need-returns Inv-loop μ-loop
 returns c =
-    let h = c .before .loop in
-    let a = c .before .before .args in
-    filled-all (h .k) (length (now (a .acc))) (minus (ofInts (now (a .x))) (ofInts (now (a .acc)))) (now (a .acc)) refl (omega arith) (omega arith) (h .inv .2)
+    let start : Start = search in
+    let turn : Turn = search in
+    let h = turn .loop in
+    let a = start .args in
+    filled-all (h .k) (length (now (a .acc))) (minus (ofInts (now (a .x))) (ofInts (now (a .acc)))) (now (a .acc)) refl (omega arith)
+    (omega arith) (h .inv .2)
 
 pub subtract-from-spec : {M : Type 1} → statement M
 subtract-from-spec =

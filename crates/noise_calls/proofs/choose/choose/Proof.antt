@@ -29,11 +29,13 @@ same-length c = search needs
 
 returns : tie.Need-returns
 returns c =
-    let refused = c .before .before in
-    let checked = refused .before .before .before in
-    let known = checked .before .before in
-    choose-refused _ _ _ _ _ _ _ (known .parameters .ensures .are) (checked .status .ensures) (refused .before .before .if1 .taken)
-    (checked .before .noise-work .ensures) (refused .finish .ensures)
+    let known : tie.After-parameters = search in
+    let after-noise-work : tie.After-noise-work = search in
+    let checked : tie.After-status = search in
+    let then1 : tie.Then1 = search in
+    let refused : tie.After-finish = search in
+    choose-refused _ _ _ _ _ _ _ (known .parameters .ensures .are) (checked .status .ensures) (then1 .if1 .taken)
+    (after-noise-work .noise-work .ensures) (refused .finish .ensures)
 
 zeros-requires : tie.Need-zeros-requires
 zeros-requires c κs = search needs
@@ -42,24 +44,29 @@ length-of-requires : tie.Need-length-of-requires
 length-of-requires c κs = search needs
 
 -- The room for b is long enough.
-fits : (c : tie.After-length-of) → c .length-of .result ≤ length (c .before .zeros .result)
+fits : (c : tie.After-length-of) →
+    let after-zeros : tie.After-zeros = search in
+    c .length-of .result ≤ length (after-zeros .zeros .result)
 fits c =
-    let zeros : length (c .before .zeros .result) ≡ 3072 = search needs in
-    omega (arith, c .length-of .ensures .0, value-fits _ (c .before .before .before .before .before .parameters .ensures .well))
+    let after-parameters : tie.After-parameters = search in
+    let after-zeros : tie.After-zeros = search in
+    let zeros : length (after-zeros .zeros .result) ≡ 3072 = search needs in
+    omega (arith, c .length-of .ensures .0, value-fits _ (after-parameters .parameters .ensures .well))
 
 array-borrow-prefix-b : tie.Need-array-borrow-prefix-b
 array-borrow-prefix-b c = fits c
 
 slice-aggregate-choose-fitting : tie.Need-slice-aggregate-choose-fitting
-slice-aggregate-choose-fitting c = sym (length-take-le _ _ (fits (c .before)))
+slice-aggregate-choose-fitting c = sym (length-take-le _ _ (fits (search)))
 
 choose-fitting-requires : tie.Need-choose-fitting-requires
 choose-fitting-requires c κs =
-    let roomed = c .before .before .before in
-    let passed = roomed .before .before in
-    let checked = passed .before in
-    let known = checked .before .before in
-    let a = known .before .before .before .before .before .args in
+    let start : tie.Start = search in
+    let known : tie.After-parameters = search in
+    let checked : tie.After-status = search in
+    let passed : tie.Else1 = search in
+    let roomed : tie.After-length-of = search in
+    let a = start .args in
     choose-fits (a .set) _ (now (a .sk)) (now (a .message)) (now (a .list)) (now (a .work)) _
     (known .parameters .ensures .are) (checked .status .ensures) _ (known .parameters .ensures .well) (passed .if1 .left)
     (length-take-le _ _ (fits roomed) ∙ roomed .length-of .ensures .0)
@@ -72,13 +79,15 @@ same-length-2 c = search needs
 
 returns-2 : tie.Need-returns-2
 returns-2 c =
-    let wiped = c .before .before in
-    let chosen = wiped .before .before .before .before .before in
-    let passed = chosen .before .before .before .before .before .before in
-    let checked = passed .before in
-    let known = checked .before .before in
+    let wiped : tie.After-finish2 = search in
+    let chosen : tie.After-choose-fitting = search in
+    let passed : tie.Else1 = search in
+    let checked : tie.After-status = search in
+    let after-noise-work : tie.After-noise-work = search in
+    let known : tie.After-parameters = search in
     choose-exit _ _ _ _ _ _ _ (known .parameters .ensures .are) (checked .status .ensures) _ (passed .if1 .left)
-    (chosen .choose-fitting .ensures) (checked .before .noise-work .ensures) (chosen .choose-fitting .kept .1 .1 .1 .1 .1 .1 .0) (wiped .finish2 .ensures)
+    (chosen .choose-fitting .ensures) (after-noise-work .noise-work .ensures) (chosen .choose-fitting .kept .1 .1 .1 .1 .1 .1 .0)
+    (wiped .finish2 .ensures)
 
 pub choose-spec : {M : Type 1} → statement M
 choose-spec =

@@ -20,15 +20,18 @@ same-length-2 c = search needs
 
 returns : tie.Need-returns
 returns c =
-    let checked = c .before in
-    let value = checked .before .before .before .before .before in
-    let a = value .before .before .before .before .before .before .before .before .args in
-    key-refused (a .p) (now (a .sk)) (now (a .message)) (now (a .list)) (value .public-value .ensures .0) (checked .refuse-if .ensures) (c .if1 .taken)
+    let start : tie.Start = search in
+    let value : tie.After-public-value = search in
+    let checked : tie.After-refuse-if = search in
+    let a = start .args in
+    key-refused (a .p) (now (a .sk)) (now (a .message)) (now (a .list)) (value .public-value .ensures .0) (checked .refuse-if .ensures)
+    (c .if1 .taken)
 
 search-requires : tie.Need-search-requires
 search-requires c κs =
-    let value = c .before .before .before .before .before .before .before .before in
-    choose-room (value .before .before .before .before .before .before .before .before .pre) (value .public-value .ensures .1) (value .public-value .kept .1 .1 .1 .0) (value .public-value .ensures .2)
+    let start : tie.Start = search in
+    let value : tie.After-public-value = search in
+    choose-room (start .pre) (value .public-value .ensures .1) (value .public-value .kept .1 .1 .1 .0) (value .public-value .ensures .2)
 
 refuse-if-requires-2 : tie.Need-refuse-if-requires-2
 refuse-if-requires-2 c κs = search needs
@@ -41,13 +44,15 @@ same-length-4 c = search needs
 
 returns-2 : tie.Need-returns-2
 returns-2 c =
-    let searched = c .before .before .before .before .before in
-    let passed = searched .before .before .before in
-    let checked = passed .before in
-    let value = checked .before .before .before .before .before in
-    let a = value .before .before .before .before .before .before .before .before .args in
+    let start : tie.Start = search in
+    let value : tie.After-public-value = search in
+    let checked : tie.After-refuse-if = search in
+    let passed : tie.Else1 = search in
+    let searched : tie.After-search = search in
+    let after-refuse-if2 : tie.After-refuse-if2 = search in
+    let a = start .args in
     none-clear (a .p) (now (a .sk)) (now (a .message)) (now (a .list)) (value .public-value .ensures .0) (checked .refuse-if .ensures)
-    (passed .if1 .left) (searched .search .ensures) (c .before .refuse-if2 .ensures) (c .if2 .taken)
+    (passed .if1 .left) (searched .search .ensures) (after-refuse-if2 .refuse-if2 .ensures) (c .if2 .taken)
 
 same-length-5 : tie.Need-same-length-5
 same-length-5 c = search needs
@@ -57,13 +62,15 @@ same-length-6 c = search needs
 
 returns-3 : tie.Need-returns-3
 returns-3 c =
-    let searched = c .before .before .before .before .before in
-    let passed = searched .before .before .before in
-    let checked = passed .before in
-    let value = checked .before .before .before .before .before in
-    let a = value .before .before .before .before .before .before .before .before .args in
+    let start : tie.Start = search in
+    let value : tie.After-public-value = search in
+    let checked : tie.After-refuse-if = search in
+    let passed : tie.Else1 = search in
+    let searched : tie.After-search = search in
+    let after-refuse-if2 : tie.After-refuse-if2 = search in
+    let a = start .args in
     some-clear (a .p) (now (a .sk)) (now (a .message)) (now (a .list)) (value .public-value .ensures .0) (checked .refuse-if .ensures)
-    (passed .if1 .left) (searched .search .ensures) (c .before .refuse-if2 .ensures) (c .if2 .left)
+    (passed .if1 .left) (searched .search .ensures) (after-refuse-if2 .refuse-if2 .ensures) (c .if2 .left)
 
 pub choose-fitting-spec : {M : Type 1} → statement M
 choose-fitting-spec =

@@ -19,20 +19,40 @@ Inv-loop p sk b message list work₀ coins count found₀ place₀ at₀ i₀ wo
 abbrev μ-loop : tie.MeasureT-loop
 μ-loop p sk b message list work₀ coins count found₀ place₀ at₀ i₀ work found place at i = count - i
 
+-- The places of the code that the answers name.
+abbrev Start : Type 0
+Start = tie.Start Inv-loop μ-loop
+
+abbrev Turn : Type 0
+Turn = tie.At-loop Inv-loop μ-loop
+
+abbrev In-loop : Type 0
+In-loop = tie.In-loop Inv-loop μ-loop
+
 div-count : tie.Need-div-count Inv-loop μ-loop
 div-count c =
-    let well = c .before .before .before .before .before .pre .well in
+    let start : Start = search in
+    let well = start .pre .well in
     omega (arith, well .coin-bits, well .some-coefficients)
 
 loop-holds : tie.Need-loop-holds Inv-loop μ-loop
-loop-holds c = (refl, c .before .before .before .before .before .pre .stream-kept, search-starts _ _ _ _)
+loop-holds c =
+    let start : Start = search in
+    (refl, start .pre .stream-kept, search-starts _ _ _ _)
 
 cast-loop : tie.Need-cast-loop Inv-loop μ-loop
-cast-loop c = omega (arith, c .loop .inv .2 .within, search-count (c .before .before .before .before .before .before .pre))
+cast-loop c =
+    let start : Start = search in
+    omega (arith, c .loop .inv .2 .within, search-count (start .pre))
 
 -- The next coins lie within the list.
-there : (c : tie.In-loop Inv-loop μ-loop) → c .before .loop .at + c .before .before .before .before .before .before .before .args .p .coins ≤ length (now (c .before .before .before .before .before .before .before .args .list))
-there c = coins-there (c .before .loop .inv .2) (c .loop-test .taken)
+there : (c : In-loop) →
+    let start : Start = search in
+    let turn : Turn = search in
+    turn .loop .at + start .args .p .coins ≤ length (now (start .args .list))
+there c =
+    let turn : Turn = search in
+    coins-there (turn .loop .inv .2) (c .loop-test .taken)
 
 add-measure : tie.Need-add-measure Inv-loop μ-loop
 add-measure c = omega (arith, there c)
@@ -48,35 +68,45 @@ part-measure-end c = omega (arith, there c)
 
 measure-requires : tie.Need-measure-requires Inv-loop μ-loop
 measure-requires c κs =
-    let tested = c .before .before in
-    search-room _ (tested .before .before .before .before .before .before .before .pre) (there tested) (tested .before .loop .inv .0) (tested .before .loop .inv .1)
+    let start : Start = search in
+    let turn : Turn = search in
+    let tested : In-loop = search in
+    search-room _ (start .pre) (there tested) (turn .loop .inv .0) (turn .loop .inv .1)
 
 first-place-requires : tie.Need-first-place-requires Inv-loop μ-loop
 first-place-requires c κs = search needs
 
 add-at : tie.Need-add-at Inv-loop μ-loop
-add-at c = omega (arith, there (c .before .before .before .before .before .before .before))
+add-at c = omega (arith, there (search))
 
 add-i : tie.Need-add-i Inv-loop μ-loop
-add-i c = omega (arith, c .before .before .before .before .before .before .before .before .loop .inv .2 .within, search-count (c .before .before .before .before .before .before .before .before .before .before .before .before .before .before .pre))
+add-i c =
+    let start : Start = search in
+    let turn : Turn = search in
+    omega (arith, turn .loop .inv .2 .within, search-count (start .pre))
 
 loop-less : tie.Need-loop-less Inv-loop μ-loop
-loop-less c = omega (arith, c .before .before .before .before .before .before .before .loop-test .taken)
+loop-less c = let in-loop : In-loop = search in omega (arith, in-loop .loop-test .taken)
 
 loop-again : tie.Need-loop-again Inv-loop μ-loop
 loop-again c =
-    let measured = c .before .before .before .before in
-    let turn = c .before .before .before .before .before .before .before .before .loop in (
+    let at-loop : Turn = search in
+    let in-loop : In-loop = search in
+    let measured : tie.After-measure Inv-loop μ-loop = search in
+    let after-first-place : tie.After-first-place Inv-loop μ-loop = search in
+    let turn = at-loop .loop in (
       measured .measure .kept .1 .1 .1 .1 .1 .0 ∙ turn .inv .0,
       measured .measure .ensures .2,
-      search-goes-on (turn .inv .2) (c .before .before .before .before .before .before .before .loop-test .taken) (measured .measure .ensures .0) (c .before .first-place .ensures),
+      search-goes-on (turn .inv .2) (in-loop .loop-test .taken) (measured .measure .ensures .0) (after-first-place .first-place .ensures),
     )
 
 same-length : tie.Need-same-length Inv-loop μ-loop
-same-length c = c .before .loop .inv .0
+same-length c = let turn : Turn = search in turn .loop .inv .0
 
 returns : tie.Need-returns Inv-loop μ-loop
-returns c = search-ends (c .before .loop .inv .2) (c .loop-test .left)
+returns c =
+    let turn : Turn = search in
+    search-ends (turn .loop .inv .2) (c .loop-test .left)
 
 pub search-spec : {M : Type 1} → statement M
 search-spec =

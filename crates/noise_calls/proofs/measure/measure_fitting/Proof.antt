@@ -20,15 +20,18 @@ same-length-2 c = search needs
 
 returns : tie.Need-returns
 returns c =
-    let checked = c .before in
-    let value = checked .before .before .before .before .before in
-    let a = value .before .before .before .before .before .before .before .before .args in
-    noise-refused (a .p) (now (a .sk)) (now (a .coins)) (now (a .message)) (value .public-value .ensures .0) (checked .refuse-if .ensures) (c .if1 .taken)
+    let start : tie.Start = search in
+    let value : tie.After-public-value = search in
+    let checked : tie.After-refuse-if = search in
+    let a = start .args in
+    noise-refused (a .p) (now (a .sk)) (now (a .coins)) (now (a .message)) (value .public-value .ensures .0) (checked .refuse-if .ensures)
+    (c .if1 .taken)
 
 measure-requires : tie.Need-measure-requires
 measure-requires c κs =
-    let value = c .before .before .before .before .before .before .before .before in
-    measure-room (value .before .before .before .before .before .before .before .before .pre) (value .public-value .ensures .1) (value .public-value .kept .1 .1 .1 .0) (value .public-value .ensures .2)
+    let start : tie.Start = search in
+    let value : tie.After-public-value = search in
+    measure-room (start .pre) (value .public-value .ensures .1) (value .public-value .kept .1 .1 .1 .0) (value .public-value .ensures .2)
 
 flag-requires : tie.Need-flag-requires
 flag-requires c κs = search needs
@@ -41,11 +44,12 @@ same-length-4 c = search needs
 
 returns-2 : tie.Need-returns-2
 returns-2 c =
-    let measured = c .before .before .before in
-    let passed = measured .before .before .before in
-    let checked = passed .before in
-    let value = checked .before .before .before .before .before in
-    let a = value .before .before .before .before .before .before .before .before .args in
+    let start : tie.Start = search in
+    let value : tie.After-public-value = search in
+    let checked : tie.After-refuse-if = search in
+    let passed : tie.Else1 = search in
+    let measured : tie.After-measure = search in
+    let a = start .args in
     noise-answered (a .p) (now (a .sk)) (now (a .coins)) (now (a .message)) (value .public-value .ensures .0) (checked .refuse-if .ensures)
     (passed .if1 .left) (measured .measure .ensures .0) (c .flag .ensures) (measured .measure .ensures .1)
 

@@ -14,10 +14,19 @@ use Rattle.product.proofs.halves.row_difference.Statement.{statement}
 use Rattle.product.proofs.halves.row_difference.Tie as tie
 
 abbrev Inv-loop : tie.InvT-loop
-Inv-loop row a b dst₀ k₀ dst k = (k ≤ length dst₀) × (length dst ≡ length dst₀) × (dst ≡ filled k (λ j. residue 65536 (minus (λ i. ofNats row (a + i)) (λ i. ofNats row (b + i)) j)) dst₀)
+Inv-loop row a b dst₀ k₀ dst k =
+    (k ≤ length dst₀) × (length dst ≡ length dst₀) ×
+    (dst ≡ filled k (λ j. residue 65536 (minus (λ i. ofNats row (a + i)) (λ i. ofNats row (b + i)) j)) dst₀)
 
 abbrev μ-loop : tie.MeasureT-loop
 μ-loop row a b dst₀ k₀ dst k = length dst₀ - k
+
+-- The places of the code that the answers name.
+abbrev Start : Type 0
+Start = tie.Start Inv-loop μ-loop
+
+abbrev Turn : Type 0
+Turn = tie.At-loop Inv-loop μ-loop
 
 loop-holds : tie.Need-loop-holds Inv-loop μ-loop
 loop-holds c = (omega arith, refl, filled-none _ _)
@@ -57,22 +66,29 @@ loop-less c = omega arith
 
 loop-again : tie.Need-loop-again Inv-loop μ-loop
 loop-again c =
-    let h = c .before .before .before .before .loop in
-    let a = c .before .before .before .before .before .before .before .args in (
+    let start : Start = search in
+    let turn : Turn = search in
+    let h = turn .loop in
+    let a = start .args in (
       omega arith,
       simp length-set (h .inv .1),
-      filled-more (h .k) (λ j. residue 65536 (minus (λ i. ofNats (now (a .row)) ((a .a) + i)) (λ i. ofNats (now (a .row)) ((a .b) + i)) j)) (now (a .dst)) 0 (omega arith) (h .inv .2) (c .difference .ensures),
+      filled-more (h .k) (λ j. residue 65536 (minus (λ i. ofNats (now (a .row)) ((a .a) + i)) (λ i. ofNats (now (a .row)) ((a .b) + i)) j))
+          (now (a .dst)) 0 (omega arith) (h .inv .2) (c .difference .ensures),
     )
 
 same-length : tie.Need-same-length Inv-loop μ-loop
-same-length c = c .before .loop .inv .1
+same-length c = let turn : Turn = search in turn .loop .inv .1
 
 returns : tie.Need-returns Inv-loop μ-loop
 unfolding residues rowDifference
 returns c =
-    let h = c .before .loop in
-    let a = c .before .before .before .before .args in
-    filled-all (h .k) (length (now (a .dst))) (λ j. residue 65536 (minus (λ i. ofNats (now (a .row)) ((a .a) + i)) (λ i. ofNats (now (a .row)) ((a .b) + i)) j)) (now (a .dst)) refl (omega arith) (omega arith) (h .inv .2)
+    let start : Start = search in
+    let turn : Turn = search in
+    let h = turn .loop in
+    let a = start .args in
+    filled-all (h .k) (length (now (a .dst)))
+    (λ j. residue 65536 (minus (λ i. ofNats (now (a .row)) ((a .a) + i)) (λ i. ofNats (now (a .row)) ((a .b) + i)) j)) (now (a .dst))
+    refl (omega arith) (omega arith) (h .inv .2)
 
 pub row-difference-spec : {M : Type 1} → statement M
 row-difference-spec =

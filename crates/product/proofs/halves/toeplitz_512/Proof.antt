@@ -12,26 +12,57 @@ use Rattle.product.proofs.Joining.{zeros-long, putRest, first-long, res
 use Rattle.product.proofs.halves.toeplitz_512.Statement.{statement}
 use Rattle.product.proofs.halves.toeplitz_512.Tie as tie
 
+-- From a place back to one that is far before it.
+abbrev start-of-zeros-256 : tie.After-zeros-256 → tie.Start
+start-of-zeros-256 c = search
+
+abbrev start-of-both3 : tie.After-both3 → tie.Start
+start-of-both3 c = search
+
+abbrev fold-of-toeplitz-256 : tie.After-toeplitz-256 → tie.After-fold
+fold-of-toeplitz-256 c = search
+
+abbrev row-difference-of-toeplitz-2562 : tie.After-toeplitz-2562 → tie.After-row-difference
+row-difference-of-toeplitz-2562 c = search
+
+abbrev toeplitz-256-of-add : tie.After-add → tie.After-toeplitz-256
+toeplitz-256-of-add c = search
+
+ruleset places = (start-of-zeros-256, start-of-both3, fold-of-toeplitz-256, row-difference-of-toeplitz-2562, toeplitz-256-of-add)
+
 -- The lengths of the room for a part of the row, and of the middle product.
 part-long : (c : tie.After-row-difference) → length (c .row-difference .last .1 .1 .1 .0) ≡ 512
-part-long c = c .row-difference .kept .1 .1 .1 .0 ∙ zeros-long (c .before .before .before .before .before .before .before .before .before .before .zeros-512 .ensures)
+part-long c =
+    let after-zeros-512 : tie.After-zeros-512 = search in
+    c .row-difference .kept .1 .1 .1 .0 ∙ zeros-long (after-zeros-512 .zeros-512 .ensures)
 
 middle-long : (c : tie.After-toeplitz-256) → length (c .toeplitz-256 .last .0) ≡ 256
-middle-long c = c .toeplitz-256 .kept .0 ∙ zeros-long (c .before .before .before .before .before .before .before .before .zeros-2562 .ensures)
+middle-long c =
+    let after-zeros-2562 : tie.After-zeros-2562 = search in
+    c .toeplitz-256 .kept .0 ∙ zeros-long (after-zeros-2562 .zeros-2562 .ensures)
 
 -- The sum after both products of its halves.
 abbrev halves : tie.After-toeplitz-2563 → List ℕ
-halves c = putRest 256 (c .toeplitz-2563 .last .0) (c .before .before .before .before .before .before .before .before .before .toeplitz-2562 .last .0 ++ drop 256 (now (c .before .before .before .before .before .before .before .before .before .before .before .before .before .before .before .before .before .before .before .before .before .before .before .before .before .before .before .before .before .before .args .acc)))
+halves c =
+    let start : tie.Start = search places in
+    let after-toeplitz-2562 : tie.After-toeplitz-2562 = search in
+    putRest 256 (c .toeplitz-2563 .last .0) (after-toeplitz-2562 .toeplitz-2562 .last .0 ++ drop 256 (now (start .args .acc)))
 
 halves-long : (c : tie.After-toeplitz-2563) → length (halves c) ≡ 512
-halves-long c = replaced-long 256 (now (c .before .before .before .before .before .before .before .before .before .before .before .before .before .before .before .before .before .before .before .before .before .before .before .before .before .before .before .before .before .before .args .acc)) (c .before .before .before .before .before .before .before .before .before .toeplitz-2562 .last .0) (c .toeplitz-2563 .last .0) (c .before .before .before .before .before .before .before .before .before .before .before .before .before .before .before .before .before .before .before .before .before .before .before .before .before .before .before .before .before .before .pre .sum-long) (c .before .before .before .before .before .before .before .before .before .toeplitz-2562 .kept .0) (c .toeplitz-2563 .kept .0)
+halves-long c =
+    let start : tie.Start = search places in
+    let after-toeplitz-2562 : tie.After-toeplitz-2562 = search in
+    replaced-long 256 (now (start .args .acc)) (after-toeplitz-2562 .toeplitz-2562 .last .0) (c .toeplitz-2563 .last .0)
+    (start .pre .sum-long) (after-toeplitz-2562 .toeplitz-2562 .kept .0) (c .toeplitz-2563 .kept .0)
 
 -- The same with the middle product in its upper half.
 abbrev whole : tie.After-add → List ℕ
-whole c = c .add .last .0 ++ drop 256 (halves (c .before .before .before .before .before))
+whole c = c .add .last .0 ++ drop 256 (halves (search))
 
 whole-long : (c : tie.After-add) → length (whole c) ≡ 512
-whole-long c = front-long 256 (halves (c .before .before .before .before .before)) (c .add .last .0) (halves-long (c .before .before .before .before .before)) (c .add .kept .0)
+whole-long c =
+    let after-toeplitz-2563 : tie.After-toeplitz-2563 = search in
+    front-long 256 (halves after-toeplitz-2563) (c .add .last .0) (halves-long after-toeplitz-2563) (c .add .kept .0)
 
 zeros-256-requires : tie.Need-zeros-256-requires
 zeros-256-requires c κs = search needs
@@ -76,7 +107,9 @@ slice-relend-prefix-toeplitz-256 : tie.Need-slice-relend-prefix-toeplitz-256
 slice-relend-prefix-toeplitz-256 c = search needs
 
 slice-aggregate-toeplitz-256-3 : tie.Need-slice-aggregate-toeplitz-256-3
-slice-aggregate-toeplitz-256-3 c = sym (first-long 256 (now (c .before .before .before .before .before .before .before .before .before .before .before .before .before .before .before .before .before .before .args .acc)) (c .before .before .before .before .before .before .before .before .before .before .before .before .before .before .before .before .before .before .pre .sum-long))
+slice-aggregate-toeplitz-256-3 c =
+    let start : tie.Start = search in
+    sym (first-long 256 (now (start .args .acc)) (start .pre .sum-long))
 
 slice-aggregate-toeplitz-256-4 : tie.Need-slice-aggregate-toeplitz-256-4
 slice-aggregate-toeplitz-256-4 c = search needs
@@ -91,7 +124,9 @@ part-toeplitz-256-end-2 : tie.Need-part-toeplitz-256-end-2
 part-toeplitz-256-end-2 c = search needs
 
 toeplitz-256-requires-2 : tie.Need-toeplitz-256-requires-2
-toeplitz-256-requires-2 c κs = upper-matrix 256 _ _ _ _ (c .before .before .before .before .before .before .before .before .before .before .before .before .before .before .before .before .before .before .before .before .pre) (part-long (c .before .before .before .before))
+toeplitz-256-requires-2 c κs =
+    let start : tie.Start = search in
+    upper-matrix 256 _ _ _ _ (start .pre) (part-long (search))
 
 slice-aggregate-row-difference-2 : tie.Need-slice-aggregate-row-difference-2
 slice-aggregate-row-difference-2 c = search needs
@@ -112,28 +147,39 @@ slice-aggregate-toeplitz-256-5 : tie.Need-slice-aggregate-toeplitz-256-5
 slice-aggregate-toeplitz-256-5 c = search needs
 
 slice-aggregate-toeplitz-256-6 : tie.Need-slice-aggregate-toeplitz-256-6
-slice-aggregate-toeplitz-256-6 c = sym (first-long 256 (now (c .before .before .before .before .before .before .before .before .before .before .before .before .before .before .before .before .before .before .before .before .before .before .before .before .before .before .before .before .before .args .v)) (c .before .before .before .before .before .before .before .before .before .before .before .before .before .before .before .before .before .before .before .before .before .before .before .before .before .before .before .before .before .pre .vector-long))
+slice-aggregate-toeplitz-256-6 c =
+    let start : tie.Start = search places in
+    sym (first-long 256 (now (start .args .v)) (start .pre .vector-long))
 
 toeplitz-256-requires-3 : tie.Need-toeplitz-256-requires-3
-toeplitz-256-requires-3 c κs = lower-matrix 256 _ _ _ (c .before .before .before .before .before .before .before .before .toeplitz-2562 .last .0) _ (c .before .before .before .before .before .before .before .before .before .before .before .before .before .before .before .before .before .before .before .before .before .before .before .before .before .before .before .before .before .pre) (c .before .before .before .before .before .before .before .before .toeplitz-2562 .kept .0) (c .before .before .before .before .row-difference2 .kept .1 .1 .1 .0 ∙ part-long (c .before .before .before .before .before .before .before .before .before .before .before .before .before))
+toeplitz-256-requires-3 c κs =
+    let start : tie.Start = search places in
+    let after-toeplitz-2562 : tie.After-toeplitz-2562 = search in
+    let after-row-difference2 : tie.After-row-difference2 = search in
+    lower-matrix 256 _ _ _ (after-toeplitz-2562 .toeplitz-2562 .last .0) _ (start .pre) (after-toeplitz-2562 .toeplitz-2562 .kept .0)
+    (after-row-difference2 .row-difference2 .kept .1 .1 .1 .0 ∙ part-long (search))
 
 slice-relend-prefix-add : tie.Need-slice-relend-prefix-add
-slice-relend-prefix-add c = omega (arith, halves-long (c .before .before))
+slice-relend-prefix-add c = omega (arith, halves-long (search))
 
 slice-aggregate-add : tie.Need-slice-aggregate-add
-slice-aggregate-add c = sym (first-long 256 (halves (c .before .before .before)) (halves-long (c .before .before .before)))
+slice-aggregate-add c =
+    let after-toeplitz-2563 : tie.After-toeplitz-2563 = search in
+    sym (first-long 256 (halves after-toeplitz-2563) (halves-long after-toeplitz-2563))
 
 slice-aggregate-add-2 : tie.Need-slice-aggregate-add-2
 slice-aggregate-add-2 c = search needs
 
 add-requires : tie.Need-add-requires
-add-requires c κs = middle-long (c .before .before .before .before .before .before .before .before .before .before .before .before .before .before .before .before .before .before .before .before .before) ∙ sym (first-long 256 (halves (c .before .before .before .before)) (halves-long (c .before .before .before .before)))
+add-requires c κs =
+    let after-toeplitz-2563 : tie.After-toeplitz-2563 = search in
+    middle-long (search) ∙ sym (first-long 256 (halves after-toeplitz-2563) (halves-long after-toeplitz-2563))
 
 sub-add : tie.Need-sub-add
-sub-add c = omega (arith, whole-long (c .before .before))
+sub-add c = omega (arith, whole-long (search))
 
 part-add-start : tie.Need-part-add-start
-part-add-start c = omega (arith, whole-long (c .before .before))
+part-add-start c = omega (arith, whole-long (search))
 
 part-add-end : tie.Need-part-add-end
 part-add-end c = search needs
@@ -142,19 +188,38 @@ slice-aggregate-add-3 : tie.Need-slice-aggregate-add-3
 slice-aggregate-add-3 c = search needs
 
 add-requires-2 : tie.Need-add-requires-2
-add-requires-2 c κs = middle-long (c .before .before .before .before .before .before .before .before .before .before .before .before .before .before .before .before .before .before .before .before .before .before .before .before .before .before) ∙ sym (rest-long 256 (whole (c .before .before .before .before)) (whole-long (c .before .before .before .before)))
+add-requires-2 c κs =
+    let after-add : tie.After-add = search in
+    middle-long (search places) ∙ sym (rest-long 256 (whole after-add) (whole-long after-add))
 
 same-length : tie.Need-same-length
 same-length c = search needs
 
 returns : tie.Need-returns
 returns c =
-    let a = c .before .before .before .before .before .before .before .before .before .before .before .before .before .before .before .before .before .before .before .before .before .before .before .before .before .before .before .before .before .before .before .before .before .before .before .before .before .before .before .before .before .before .args in
-    halves-joined 256 (now (a .acc)) (now (a .row)) (now (a .v)) (c .before .before .before .before .before .before .before .before .before .before .before .before .before .before .before .before .before .before .before .before .before .before .before .before .before .before .before .before .before .before .before .before .before .before .before .before .before .before .before .before .before .before .pre) (c .before .before .before .before .before .before .before .before .before .before .before .before .before .before .before .before .before .before .before .before .before .before .before .before .before .before .before .before .before .before .before .before .before .before .before .before .before .zeros-2562 .ensures)
-    (c .before .before .before .before .before .before .before .before .before .before .before .before .before .before .before .before .before .before .before .before .before .before .before .before .before .before .before .before .before .before .before .before .before .before .fold .ensures ∙ ap (λ (m : ℕ). folded m (now (a .v))) (zeros-long (c .before .before .before .before .before .before .before .before .before .before .before .before .before .before .before .before .before .before .before .before .before .before .before .before .before .before .before .before .before .before .before .before .before .before .before .before .before .before .zeros-256 .ensures))) (c .before .before .before .before .before .before .before .before .before .before .before .before .before .before .before .before .before .before .before .before .before .before .before .before .before .before .before .before .before .toeplitz-256 .ensures)
-    (c .before .before .before .before .before .before .before .before .before .before .before .before .before .before .before .before .before .before .before .before .before .before .before .before .before .before .row-difference .ensures ∙ ap (λ (m : ℕ). rowDifference 0 256 m (now (a .row))) (zeros-long (c .before .before .before .before .before .before .before .before .before .before .before .before .before .before .before .before .before .before .before .before .before .before .before .before .before .before .before .before .before .before .before .before .before .before .before .before .zeros-512 .ensures))) (c .before .before .before .before .before .before .before .before .before .before .before .before .before .before .before .before .before .before .before .before .before .toeplitz-2562 .ensures)
-    (c .before .before .before .before .before .before .before .before .before .before .before .before .before .before .before .before .before .row-difference2 .ensures ∙ ap (λ (m : ℕ). rowDifference 512 256 m (now (a .row))) (part-long (c .before .before .before .before .before .before .before .before .before .before .before .before .before .before .before .before .before .before .before .before .before .before .before .before .before .before))) (c .before .before .before .before .before .before .before .before .before .before .before .before .toeplitz-2563 .ensures)
-    (c .before .before .before .before .before .before .before .add .ensures) (c .before .before .add2 .ensures)
+    let after-add2 : tie.After-add2 = search in
+    let after-add : tie.After-add = search in
+    let after-toeplitz-2563 : tie.After-toeplitz-2563 = search in
+    let after-row-difference2 : tie.After-row-difference2 = search in
+    let after-toeplitz-2562 : tie.After-toeplitz-2562 = search in
+    let after-row-difference : tie.After-row-difference = search places in
+    let after-toeplitz-256 : tie.After-toeplitz-256 = search in
+    let after-fold : tie.After-fold = search places in
+    let after-zeros-512 : tie.After-zeros-512 = search in
+    let after-zeros-2562 : tie.After-zeros-2562 = search in
+    let after-zeros-256 : tie.After-zeros-256 = search in
+    let start : tie.Start = search places in
+    let a = start .args in
+    halves-joined 256 (now (a .acc)) (now (a .row)) (now (a .v)) (start .pre) (after-zeros-2562 .zeros-2562 .ensures)
+    (after-fold .fold .ensures ∙ ap (λ (m : ℕ). folded m (now (a .v))) (zeros-long (after-zeros-256 .zeros-256 .ensures)))
+    (after-toeplitz-256 .toeplitz-256 .ensures)
+    (after-row-difference .row-difference .ensures ∙
+    ap (λ (m : ℕ). rowDifference 0 256 m (now (a .row))) (zeros-long (after-zeros-512 .zeros-512 .ensures)))
+    (after-toeplitz-2562 .toeplitz-2562 .ensures)
+    (after-row-difference2 .row-difference2 .ensures ∙
+    ap (λ (m : ℕ). rowDifference 512 256 m (now (a .row))) (part-long after-row-difference))
+    (after-toeplitz-2563 .toeplitz-2563 .ensures)
+    (after-add .add .ensures) (after-add2 .add2 .ensures)
 
 pub toeplitz-512-spec : {M : Type 1} → statement M
 toeplitz-512-spec =

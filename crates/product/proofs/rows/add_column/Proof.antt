@@ -22,6 +22,13 @@ Inv-loop acc₀ row a k₀ acc k = (k ≤ length acc₀) × (length acc ≡ leng
 abbrev μ-loop : tie.MeasureT-loop
 μ-loop acc₀ row a k₀ acc k = length acc₀ - k
 
+-- The places of the code that the answers name.
+abbrev Start : Type 0
+Start = tie.Start Inv-loop μ-loop
+
+abbrev Turn : Type 0
+Turn = tie.At-loop Inv-loop μ-loop
+
 loop-holds : tie.Need-loop-holds Inv-loop μ-loop
 loop-holds c = (omega arith, refl, filled-none _ _)
 
@@ -54,21 +61,28 @@ loop-less c = omega arith
 
 loop-again : tie.Need-loop-again Inv-loop μ-loop
 loop-again c =
-    let h = c .before .before .before .before .loop in
-    let a = c .before .before .before .before .before .before .before .args in (
+    let start : Start = search in
+    let turn : Turn = search in
+    let h = turn .loop in
+    let a = start .args in (
       omega arith,
       simp length-set (h .inv .1),
-      filled-more (h .k) (column (now (a .acc)) (now (a .row)) (a .a)) (now (a .acc)) 0 (omega arith) (h .inv .2) (c .add-term .ensures ∙ ap (λ (m : ℕ). addTerm m (a .a) (getD (now (a .row)) (h .k) 0)) (filled-at (h .k) (h .k) _ (now (a .acc)) 0 (omega arith) (h .inv .2))),
+      filled-more (h .k) (column (now (a .acc)) (now (a .row)) (a .a)) (now (a .acc)) 0 (omega arith) (h .inv .2)
+          (c .add-term .ensures ∙ ap (λ (m : ℕ). addTerm m (a .a) (getD (now (a .row)) (h .k) 0))
+          (filled-at (h .k) (h .k) _ (now (a .acc)) 0 (omega arith) (h .inv .2))),
     )
 
 same-length : tie.Need-same-length Inv-loop μ-loop
-same-length c = c .before .loop .inv .1
+same-length c = let turn : Turn = search in turn .loop .inv .1
 
 returns : tie.Need-returns Inv-loop μ-loop
 returns c =
-    let h = c .before .loop in
-    let a = c .before .before .before .before .args in
-    filled-all (h .k) (length (now (a .acc))) (column (now (a .acc)) (now (a .row)) (a .a)) (now (a .acc)) refl (omega arith) (omega arith) (h .inv .2)
+    let start : Start = search in
+    let turn : Turn = search in
+    let h = turn .loop in
+    let a = start .args in
+    filled-all (h .k) (length (now (a .acc))) (column (now (a .acc)) (now (a .row)) (a .a)) (now (a .acc)) refl (omega arith) (omega arith)
+    (h .inv .2)
 
 pub add-column-spec : {M : Type 1} → statement M
 add-column-spec =

@@ -22,6 +22,13 @@ Inv-loop acc₀ row a b k₀ acc k = (k ≤ length acc₀) × (length acc ≡ le
 abbrev μ-loop : tie.MeasureT-loop
 μ-loop acc₀ row a b k₀ acc k = length acc₀ - k
 
+-- The places of the code that the answers name.
+abbrev Start : Type 0
+Start = tie.Start Inv-loop μ-loop
+
+abbrev Turn : Type 0
+Turn = tie.At-loop Inv-loop μ-loop
+
 loop-holds : tie.Need-loop-holds Inv-loop μ-loop
 loop-holds c = (omega arith, refl, filled-none _ _)
 
@@ -66,24 +73,31 @@ loop-less c = omega arith
 
 loop-again : tie.Need-loop-again Inv-loop μ-loop
 loop-again c =
-    let h = c .before .before .before .before .before .before .loop in
-    let a = c .before .before .before .before .before .before .before .before .before .args in
+    let start : Start = search in
+    let turn : Turn = search in
+    let after-add-term : tie.After-add-term Inv-loop μ-loop = search in
+    let h = turn .loop in
+    let a = start .args in
     let there = filled-at (h .k) (h .k) _ (now (a .acc)) 0 (omega arith) (h .inv .2) in (
       omega arith,
       simp length-set (h .inv .1),
       filled-more (h .k) (columns (now (a .acc)) (now (a .row)) (a .a) (a .b)) (now (a .acc)) 0 (omega arith) (h .inv .2)
           (c .add-term2 .ensures
-          ∙ ap (λ (m : ℕ). addTerm m (a .b) (getD (now (a .row)) (h .k) 0)) (c .before .before .add-term .ensures ∙ ap (λ (m : ℕ). addTerm m (a .a) (getD (now (a .row)) (h .k + 1) 0)) there)),
+          ∙ ap (λ (m : ℕ). addTerm m (a .b) (getD (now (a .row)) (h .k) 0))
+          (after-add-term .add-term .ensures ∙ ap (λ (m : ℕ). addTerm m (a .a) (getD (now (a .row)) (h .k + 1) 0)) there)),
     )
 
 same-length : tie.Need-same-length Inv-loop μ-loop
-same-length c = c .before .loop .inv .1
+same-length c = let turn : Turn = search in turn .loop .inv .1
 
 returns : tie.Need-returns Inv-loop μ-loop
 returns c =
-    let h = c .before .loop in
-    let a = c .before .before .before .before .args in
-    filled-all (h .k) (length (now (a .acc))) (columns (now (a .acc)) (now (a .row)) (a .a) (a .b)) (now (a .acc)) refl (omega arith) (omega arith) (h .inv .2)
+    let start : Start = search in
+    let turn : Turn = search in
+    let h = turn .loop in
+    let a = start .args in
+    filled-all (h .k) (length (now (a .acc))) (columns (now (a .acc)) (now (a .row)) (a .a) (a .b)) (now (a .acc)) refl (omega arith)
+    (omega arith) (h .inv .2)
 
 pub add-two-spec : {M : Type 1} → statement M
 add-two-spec =

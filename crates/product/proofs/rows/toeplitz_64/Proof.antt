@@ -27,9 +27,14 @@ same-length c = search needs
 
 returns : tie.Need-returns
 returns c =
-    let a = c .before .before .before .before .before .before .before .before .before .before .before .before .args in
-    c .before .before .add .ensures
-    ∙ sums-added 64 (now (a .acc)) _ (now (a .row)) (now (a .v)) (c .before .before .before .before .before .before .before .before .before .before .before .before .pre .sum-long) (c .before .before .before .before .before .before .before .before .zeros-64 .ensures) (c .before .before .before .before .before .before .toeplitz-rows .ensures)
+    let start : tie.Start = search in
+    let after-zeros-64 : tie.After-zeros-64 = search in
+    let after-toeplitz-rows : tie.After-toeplitz-rows = search in
+    let after-add : tie.After-add = search in
+    let a = start .args in
+    after-add .add .ensures
+    ∙ sums-added 64 (now (a .acc)) _ (now (a .row)) (now (a .v)) (start .pre .sum-long) (after-zeros-64 .zeros-64 .ensures)
+    (after-toeplitz-rows .toeplitz-rows .ensures)
 
 pub toeplitz-64-spec : {M : Type 1} → statement M
 toeplitz-64-spec =

@@ -19,10 +19,22 @@ Inv-loop acc₀ row v n i₀ acc i =
 abbrev μ-loop : tie.MeasureT-loop
 μ-loop acc₀ row v n i₀ acc i = length acc₀ - i
 
+-- The places of the code that the answers name.
+abbrev Start : Type 0
+Start = tie.Start Inv-loop μ-loop
+
+abbrev Turn : Type 0
+Turn = tie.At-loop Inv-loop μ-loop
+
+abbrev After-add-column : Type 0
+After-add-column = tie.After-add-column Inv-loop μ-loop
+
 loop-holds : tie.Need-loop-holds Inv-loop μ-loop
 loop-holds c =
-    let a = c .before .before .before .args in
-    let words : Below 65536 (now (a .acc)) = λ i. c .before .before .slice-known .given i .fits in
+    let start : Start = search in
+    let after-slice-known : tie.After-slice-known Inv-loop μ-loop = search in
+    let a = start .args in
+    let words : Below 65536 (now (a .acc)) = λ i. after-slice-known .slice-known .given i .fits in
     (omega arith, refl, columns-none (now (a .acc)) (ofNats (now (a .row))) (ofNats (now (a .v))) words)
 
 sub-loop : tie.Need-sub-loop Inv-loop μ-loop
@@ -69,8 +81,10 @@ shared-slice-read-add-two-2 c = omega arith
 
 add-two-requires : tie.Need-add-two-requires Inv-loop μ-loop
 add-two-requires c κs =
-    let h = c .before .before .before .before .before .loop in
-    let a = c .before .before .before .before .before .before .before .before .before .args in
+    let start : Start = search in
+    let turn : Turn = search in
+    let h = turn .loop in
+    let a = start .args in
     let n = length (now (a .acc)) in
     window-long (n - 1 - h .i) (2 * n - h .i - (n - 1 - h .i)) (now (a .row)) (omega arith) ∙ omega arith
 
@@ -82,12 +96,17 @@ loop-less c = omega arith
 
 loop-again : tie.Need-loop-again Inv-loop μ-loop
 loop-again c =
-    let h = c .before .before .before .before .before .before .before .before .loop in
-    let a = c .before .before .before .before .before .before .before .before .before .before .before .before .args in (
+    let start : Start = search in
+    let turn : Turn = search in
+    let after-add-two : tie.After-add-two Inv-loop μ-loop = search in
+    let h = turn .loop in
+    let a = start .args in (
       omega arith,
-      c .before .before .add-two .kept .0 ∙ h .inv .1,
-      c .before .before .add-two .ensures
-          ∙ rw (h .inv .1) (columns-more (length (now (a .acc))) (ofNats (now (a .acc))) (now (a .row)) (now (a .v)) (h .acc) (h .i) (omega arith) (h .inv .2)),
+      after-add-two .add-two .kept .0 ∙ h .inv .1,
+      after-add-two .add-two .ensures
+          ∙ rw (h .inv .1)
+          (columns-more (length (now (a .acc))) (ofNats (now (a .acc))) (now (a .row)) (now (a .v)) (h .acc) (h .i) (omega arith)
+          (h .inv .2)),
     )
 
 sub-add-column : tie.Need-sub-add-column Inv-loop μ-loop
@@ -119,32 +138,42 @@ shared-slice-read-add-column c = omega arith
 
 add-column-requires : tie.Need-add-column-requires Inv-loop μ-loop
 add-column-requires c κs =
-    let h = c .before .before .before .before .before .loop in
-    let a = c .before .before .before .before .before .before .before .before .before .args in
+    let start : Start = search in
+    let turn : Turn = search in
+    let h = turn .loop in
+    let a = start .args in
     let n = length (now (a .acc)) in
     window-long (n - h .i) (2 * n - h .i - (n - h .i)) (now (a .row)) (omega arith) ∙ omega arith
 
 same-length : tie.Need-same-length Inv-loop μ-loop
-same-length c = c .before .before .add-column .kept .0 ∙ c .before .before .before .before .before .before .before .before .loop .inv .1
+same-length c =
+    let turn : Turn = search in
+    let after-add-column : After-add-column = search in
+    after-add-column .add-column .kept .0 ∙ turn .loop .inv .1
 
 returns : tie.Need-returns Inv-loop μ-loop
 returns c =
-    let h = c .before .before .before .before .before .before .before .before .loop in
-    let a = c .before .before .before .before .before .before .before .before .before .before .before .before .args in
+    let start : Start = search in
+    let turn : Turn = search in
+    let after-add-column : After-add-column = search in
+    let h = turn .loop in
+    let a = start .args in
     let n = length (now (a .acc)) in
     let all : h .i + 1 ≡ n = omega arith in
-    c .before .before .add-column .ensures
+    after-add-column .add-column .ensures
     ∙ rw (h .inv .1) (column-more n (ofNats (now (a .acc))) (now (a .row)) (now (a .v)) (h .acc) (h .i) (omega arith) (h .inv .2))
     ∙ ap (λ (m : ℕ). residues 65536 n (columns n (ofNats (now (a .acc))) (ofNats (now (a .row))) (ofNats (now (a .v))) m)) all
     ∙ columns-all (now (a .acc)) (now (a .row)) (now (a .v))
 
 same-length-2 : tie.Need-same-length-2 Inv-loop μ-loop
-same-length-2 c = c .before .before .loop .inv .1
+same-length-2 c = let turn : Turn = search in turn .loop .inv .1
 
 returns-2 : tie.Need-returns-2 Inv-loop μ-loop
 returns-2 c =
-    let h = c .before .before .loop in
-    let a = c .before .before .before .before .before .before .args in
+    let start : Start = search in
+    let turn : Turn = search in
+    let h = turn .loop in
+    let a = start .args in
     let n = length (now (a .acc)) in
     let all : h .i ≡ n = omega arith in
     h .inv .2 ∙ ap (λ (m : ℕ). residues 65536 n (columns n (ofNats (now (a .acc))) (ofNats (now (a .row))) (ofNats (now (a .v))) m)) all

@@ -9,18 +9,23 @@ use Rattle.records.proofs.header.read_header.Statement.{statement}
 use Rattle.records.proofs.header.read_header.Tie as tie
 
 returns : tie.Need-returns
-returns c = read-end (now (c .before .before .args .rest)) (c .if1 .taken)
+returns c = let start : tie.Start = search in read-end (now (start .args .rest)) (c .if1 .taken)
 
 returns-2 : tie.Need-returns-2
 returns-2 c =
-    read-short (now (c .before .before .before .args .rest)) (c .before .if1 .left) (c .if2 .taken)
+    let start : tie.Start = search in
+    let else1 : tie.Else1 = search in
+    read-short (now (start .args .rest)) (else1 .if1 .left) (c .if2 .taken)
 
 is-marked-requires : tie.Need-is-marked-requires
 is-marked-requires c κs = search needs
 
 returns-3 : tie.Need-returns-3
 returns-3 c =
-    read-unmarked (now (c .before .before .before .before .before .args .rest)) (c .before .before .if2 .left) (sym (c .before .is-marked .ensures) ∙ not-true _ (c .if3 .taken))
+    let start : tie.Start = search in
+    let else2 : tie.Else2 = search in
+    let after-is-marked : tie.After-is-marked = search in
+    read-unmarked (now (start .args .rest)) (else2 .if2 .left) (sym (after-is-marked .is-marked .ensures) ∙ not-true _ (c .if3 .taken))
 
 shared-slice-read-kind : tie.Need-shared-slice-read-kind
 shared-slice-read-kind c = search needs
@@ -36,18 +41,56 @@ is-kind-requires c κs = search needs
 
 returns-4 : tie.Need-returns-4
 returns-4 c =
-    read-cut (now (c .before .before .before .before .before .before .before .before .before .before .args .rest)) (c .before .before .before .body-length .result) (record { enough = c .before .before .before .before .before .before .before .if2 .left; mark = sym (c .before .before .before .before .before .before .is-marked .ensures) ∙ not-false _ (c .before .before .before .before .before .if3 .left); is-body = c .before .before .before .body-length .ensures }) (sym (c .before .before .is-cut .ensures) ∙ c .if4 .taken)
+    let start : tie.Start = search in
+    let else2 : tie.Else2 = search in
+    let after-is-marked : tie.After-is-marked = search in
+    let else3 : tie.Else3 = search in
+    let after-body-length : tie.After-body-length = search in
+    let after-is-cut : tie.After-is-cut = search in
+    read-cut (now (start .args .rest)) (after-body-length .body-length .result)
+    (record {
+      enough = else2 .if2 .left;
+      mark = sym (after-is-marked .is-marked .ensures) ∙ not-false _ (else3 .if3 .left);
+      is-body = after-body-length .body-length .ensures;
+    }) (sym (after-is-cut .is-cut .ensures) ∙ c .if4 .taken)
 
 returns-5 : tie.Need-returns-5
 returns-5 c =
-    read-unknown (now (c .before .before .before .before .before .before .before .before .before .before .before .args .rest)) (c .before .before .before .before .body-length .result) (record { enough = c .before .before .before .before .before .before .before .before .if2 .left; mark = sym (c .before .before .before .before .before .before .before .is-marked .ensures) ∙ not-false _ (c .before .before .before .before .before .before .if3 .left); is-body = c .before .before .before .before .body-length .ensures }) (sym (c .before .before .before .is-cut .ensures) ∙ c .before .if4 .left) (sym (c .before .before .is-kind .ensures) ∙ not-true _ (c .if5 .taken))
+    let start : tie.Start = search in
+    let else2 : tie.Else2 = search in
+    let after-is-marked : tie.After-is-marked = search in
+    let else3 : tie.Else3 = search in
+    let after-body-length : tie.After-body-length = search in
+    let after-is-cut : tie.After-is-cut = search in
+    let after-is-kind : tie.After-is-kind = search in
+    let else4 : tie.Else4 = search in
+    read-unknown (now (start .args .rest)) (after-body-length .body-length .result)
+    (record {
+      enough = else2 .if2 .left;
+      mark = sym (after-is-marked .is-marked .ensures) ∙ not-false _ (else3 .if3 .left);
+      is-body = after-body-length .body-length .ensures;
+    }) (sym (after-is-cut .is-cut .ensures) ∙ else4 .if4 .left) (sym (after-is-kind .is-kind .ensures) ∙ not-true _ (c .if5 .taken))
 
 shared-slice-read-t10 : tie.Need-shared-slice-read-t10
 shared-slice-read-t10 c = search needs
 
 returns-6 : tie.Need-returns-6
 returns-6 c =
-    read-whole (now (c .before .before .before .before .before .before .before .before .before .before .before .before .args .rest)) (c .before .before .before .before .before .body-length .result) (record { enough = c .before .before .before .before .before .before .before .before .before .if2 .left; mark = sym (c .before .before .before .before .before .before .before .before .is-marked .ensures) ∙ not-false _ (c .before .before .before .before .before .before .before .if3 .left); is-body = c .before .before .before .before .before .body-length .ensures }) (sym (c .before .before .before .before .is-cut .ensures) ∙ c .before .before .if4 .left) (sym (c .before .before .before .is-kind .ensures) ∙ not-false _ (c .before .if5 .left))
+    let start : tie.Start = search in
+    let else2 : tie.Else2 = search in
+    let after-is-marked : tie.After-is-marked = search in
+    let else3 : tie.Else3 = search in
+    let after-body-length : tie.After-body-length = search in
+    let after-is-cut : tie.After-is-cut = search in
+    let after-is-kind : tie.After-is-kind = search in
+    let else4 : tie.Else4 = search in
+    let else5 : tie.Else5 = search in
+    read-whole (now (start .args .rest)) (after-body-length .body-length .result)
+    (record {
+      enough = else2 .if2 .left;
+      mark = sym (after-is-marked .is-marked .ensures) ∙ not-false _ (else3 .if3 .left);
+      is-body = after-body-length .body-length .ensures;
+    }) (sym (after-is-cut .is-cut .ensures) ∙ else4 .if4 .left) (sym (after-is-kind .is-kind .ensures) ∙ not-false _ (else5 .if5 .left))
 
 pub read-header-spec : {M : Type 1} → statement M
 read-header-spec =

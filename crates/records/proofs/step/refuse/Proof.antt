@@ -72,7 +72,9 @@ same-length c = search needs
 returns : tie.Need-returns
 unfolding stepBy headerNumber
 returns c =
-    rw (c .before .before .before .before .enum-told .given .1) (c .before .before .stop .ensures)
+    let after-enum-told : tie.After-enum-told = search in
+    let after-stop : tie.After-stop = search in
+    rw (after-enum-told .enum-told .given .1) (after-stop .stop .ensures)
 
 same-length-2 : tie.Need-same-length-2
 same-length-2 c = search needs
@@ -80,7 +82,9 @@ same-length-2 c = search needs
 returns-2 : tie.Need-returns-2
 unfolding stepBy headerNumber
 returns-2 c =
-    rw (c .before .before .before .before .enum-told2 .given .1) (c .before .before .stop2 .ensures)
+    let after-enum-told2 : tie.After-enum-told2 = search in
+    let after-stop2 : tie.After-stop2 = search in
+    rw (after-enum-told2 .enum-told2 .given .1) (after-stop2 .stop2 .ensures)
 
 same-length-3 : tie.Need-same-length-3
 same-length-3 c = search needs
@@ -88,7 +92,9 @@ same-length-3 c = search needs
 returns-3 : tie.Need-returns-3
 unfolding stepBy headerNumber
 returns-3 c =
-    rw (c .before .before .before .before .enum-told3 .given .1) (c .before .before .stop3 .ensures)
+    let after-enum-told3 : tie.After-enum-told3 = search in
+    let after-stop3 : tie.After-stop3 = search in
+    rw (after-enum-told3 .enum-told3 .given .1) (after-stop3 .stop3 .ensures)
 
 same-length-4 : tie.Need-same-length-4
 same-length-4 c = search needs
@@ -96,18 +102,28 @@ same-length-4 c = search needs
 returns-4 : tie.Need-returns-4
 unfolding stepBy headerNumber number output
 returns-4 c =
-    let a = c .before .before .before .before .before .before .before .before .before .args in
-    rw (c .before .before .before .before .before .before .header .given .1, c .new .ensures) (answers-exit (a .done) (now (a .out)) (a .at) (c .before .before .before .before .before .before .header .given .0 .0) (refused 12) (6 + c .before .before .before .before .before .before .header .given .0 .1 .0) (c .before .before .before .put-refusal .ensures))
+    let start : tie.Start = search in
+    let after-header : tie.After-header = search in
+    let after-put-refusal : tie.After-put-refusal = search in
+    let a = start .args in
+    rw (after-header .header .given .1, c .new .ensures)
+    (answers-exit (a .done) (now (a .out)) (a .at) (after-header .header .given .0 .0) (refused 12)
+    (6 + after-header .header .given .0 .1 .0) (after-put-refusal .put-refusal .ensures))
 
 returns-5 : tie.Need-returns-5
 unfolding stepBy
 returns-5 c =
-    rw (c .before .enum-told4 .given .1, c .new2 .ensures) (finished-exit (c .before .before .before .before .args .done) (now (c .before .before .before .before .args .out)) (c .before .before .before .before .args .at))
+    let start : tie.Start = search in
+    let after-enum-told4 : tie.After-enum-told4 = search in
+    rw (after-enum-told4 .enum-told4 .given .1, c .new2 .ensures)
+    (finished-exit (start .args .done) (now (start .args .out)) (start .args .at))
 
 returns-6 : tie.Need-returns-6
 unfolding isWhole
 returns-6 c =
-    never-true (sym (ap isWhole (c .before .enum-told5 .given .1)) ∙ c .before .before .before .before .pre .2)
+    let start : tie.Start = search in
+    let after-enum-told5 : tie.After-enum-told5 = search in
+    never-true (sym (ap isWhole (after-enum-told5 .enum-told5 .given .1)) ∙ start .pre .2)
 
 pub refuse-spec : {M : Type 1} → statement M
 refuse-spec =

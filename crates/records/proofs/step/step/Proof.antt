@@ -11,6 +11,12 @@ use Rattle.records.proofs.Headers.{whole-there}
 use Rattle.records.proofs.step.step.Statement.{statement}
 use Rattle.records.proofs.step.step.Tie as tie
 
+-- From a place back to one that is far before it.
+abbrev start-of-read-header : tie.After-read-header → tie.Start
+start-of-read-header c = search
+
+ruleset places = (start-of-read-header)
+
 read-header-requires : tie.Need-read-header-requires
 read-header-requires c κs = search needs
 
@@ -19,16 +25,27 @@ enum-known-header c = search needs
 
 refuse-requires : tie.Need-refuse-requires
 refuse-requires c κs =
-    (c .before .before .before .before .before .before .before .before .pre .few, omega (arith, c .before .before .before .before .before .before .before .before .pre .line-fits), not-whole (c .before .before .read-header .result) (c .before .match .keys2))
+    let start : tie.Start = search in
+    let after-read-header : tie.After-read-header = search in
+    let at-match-keys2 : tie.At-match-keys2 = search in (
+      start .pre .few,
+      omega (arith, start .pre .line-fits),
+      not-whole (after-read-header .read-header .result) (at-match-keys2 .match .keys2),
+    )
 
 same-length : tie.Need-same-length
 same-length c = search needs
 
 returns : tie.Need-returns
 returns c =
-    let a = c .before .before .before .before .before .before .before .before .before .before .before .args in
-    refused-exit (a .done) (a .at) (now (a .out)) (now (a .rest)) (c .before .before .before .before .before .read-header .result) (c .before .before .before .before .before .read-header .ensures)
-    (not-whole (c .before .before .before .before .before .read-header .result) (c .before .before .before .before .match .keys2)) (c .before .before .refuse .ensures)
+    let start : tie.Start = search in
+    let after-read-header : tie.After-read-header = search in
+    let at-match-keys2 : tie.At-match-keys2 = search in
+    let after-refuse : tie.After-refuse = search in
+    let a = start .args in
+    refused-exit (a .done) (a .at) (now (a .out)) (now (a .rest)) (after-read-header .read-header .result)
+    (after-read-header .read-header .ensures)
+    (not-whole (after-read-header .read-header .result) (at-match-keys2 .match .keys2)) (after-refuse .refuse .ensures)
 
 cast-end : tie.Need-cast-end
 cast-end c = search needs
@@ -47,7 +64,10 @@ part-answer-start c = search needs
 
 part-answer-end : tie.Need-part-answer-end
 part-answer-end c =
-    omega (arith, whole-there (now (c .before .before .before .before .before .before .before .before .before .args .rest)) (sym (c .before .header .given .1) ∙ c .before .before .before .read-header .ensures))
+    let start : tie.Start = search in
+    let after-read-header : tie.After-read-header = search in
+    let after-header : tie.After-header = search in
+    omega (arith, whole-there (now (start .args .rest)) (sym (after-header .header .given .1) ∙ after-read-header .read-header .ensures))
 
 answer-requires : tie.Need-answer-requires
 answer-requires c κs = search needs
@@ -60,19 +80,32 @@ slice-reshare-prefix-put-line c = search needs
 
 slice-aggregate-put-line : tie.Need-slice-aggregate-put-line
 slice-aggregate-put-line c =
-    sym (length-take-le _ _ (omega (arith, c .before .before .before .before .before .before .before .answer .ensures .first-fits, c .before .before .before .before .before .before .before .before .before .before .before .before .before .before .before .before .before .before .before .before .before .pre .room .first-long)))
+    let start : tie.Start = search in
+    let after-answer : tie.After-answer = search in
+    sym (length-take-le _ _ (omega (arith, after-answer .answer .ensures .first-fits, start .pre .room .first-long)))
 
 slice-reshare-prefix-put-line-2 : tie.Need-slice-reshare-prefix-put-line-2
 slice-reshare-prefix-put-line-2 c = search needs
 
 slice-aggregate-put-line-2 : tie.Need-slice-aggregate-put-line-2
 slice-aggregate-put-line-2 c =
-    sym (length-take-le _ _ (omega (arith, c .before .before .before .before .before .before .before .before .answer .ensures .second-fits, c .before .before .before .before .before .before .before .before .before .before .before .before .before .before .before .before .before .before .before .before .before .before .pre .room .second-long)))
+    let start : tie.Start = search in
+    let after-answer : tie.After-answer = search in
+    sym (length-take-le _ _ (omega (arith, after-answer .answer .ensures .second-fits, start .pre .room .second-long)))
 
 put-line-requires : tie.Need-put-line-requires
 put-line-requires c κs =
-    let o = c .before .before .before .before .before .before .before .before .before .answer in
-    omega (arith, c .before .before .before .before .before .before .before .before .before .before .before .before .before .before .before .before .before .before .before .before .before .before .before .pre .line-fits, o .ensures .first-fits, o .ensures .second-fits, length-take (o .result .first) (o .last .1 .1 .1 .0), length-take (o .result .second) (o .last .1 .1 .1 .1 .0))
+    let start : tie.Start = search in
+    let after-answer : tie.After-answer = search in
+    let o = after-answer .answer in
+    omega (
+      arith,
+      start .pre .line-fits,
+      o .ensures .first-fits,
+      o .ensures .second-fits,
+      length-take (o .result .first) (o .last .1 .1 .1 .0),
+      length-take (o .result .second) (o .last .1 .1 .1 .1 .0),
+    )
 
 add-new : tie.Need-add-new
 add-new c = search needs
@@ -97,12 +130,18 @@ same-length-5 c = search needs
 
 returns-2 : tie.Need-returns-2
 returns-2 c =
-    let a = c .before .before .before .before .before .before .before .before .before .before .before .before .before .before .before .before .before .before .before .before .before .before .before .before .before .before .before .args in
-    let h = c .before .before .before .before .before .before .before .before .before .before .before .before .before .before .before .before .before .before .before .header in
-    let o = c .before .before .before .before .before .before .before .before .before .before .before .before .before .answer in
+    let after-put-line : tie.After-put-line = search in
+    let after-answer : tie.After-answer = search in
+    let after-header : tie.After-header = search in
+    let after-read-header : tie.After-read-header = search in
+    let start : tie.Start = search places in
+    let a = start .args in
+    let h = after-header .header in
+    let o = after-answer .answer in
     rw (c .new .ensures)
     (whole-exit (a .done) (a .at) (now (a .out)) (now (a .rest)) (h .given .0 .0) (h .given .0 .1 .0) (h .given .0 .1 .1 .0)
-    (o .last .1 .1 .1 .0) (o .last .1 .1 .1 .1 .0) (sym (h .given .1) ∙ c .before .before .before .before .before .before .before .before .before .before .before .before .before .before .before .before .before .before .before .before .before .read-header .ensures) (o .ensures) (c .before .before .before .put-line .ensures))
+    (o .last .1 .1 .1 .0) (o .last .1 .1 .1 .1 .0) (sym (h .given .1) ∙ after-read-header .read-header .ensures) (o .ensures)
+    (after-put-line .put-line .ensures))
 
 pub step-spec : {M : Type 1} → statement M
 step-spec =

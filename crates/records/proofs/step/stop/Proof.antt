@@ -23,7 +23,11 @@ same-length c = search needs
 
 returns : tie.Need-returns
 returns c =
-    rw (c .new .ensures) (stopped-exit (c .before .before .before .before .before .before .args .done) (now (c .before .before .before .before .before .before .args .out)) (c .before .before .before .before .before .before .args .at) (c .before .before .before .before .before .before .args .status) (c .before .before .before .put-refusal .ensures))
+    let start : tie.Start = search in
+    let after-put-refusal : tie.After-put-refusal = search in
+    rw (c .new .ensures)
+    (stopped-exit (start .args .done) (now (start .args .out)) (start .args .at) (start .args .status)
+    (after-put-refusal .put-refusal .ensures))
 
 pub stop-spec : {M : Type 1} → statement M
 stop-spec =

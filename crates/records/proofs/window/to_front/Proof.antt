@@ -10,10 +10,18 @@ use Rattle.records.proofs.window.to_front.Statement.{statement}
 use Rattle.records.proofs.window.to_front.Tie as tie
 
 abbrev Inv-loop : tie.InvT-loop
-Inv-loop buffer₀ from to left i₀ buffer i = (i ≤ left) × (length buffer ≡ length buffer₀) × (take i buffer ≡ take i (drop from buffer₀)) × (drop i buffer ≡ drop i buffer₀)
+Inv-loop buffer₀ from to left i₀ buffer i =
+    (i ≤ left) × (length buffer ≡ length buffer₀) × (take i buffer ≡ take i (drop from buffer₀)) × (drop i buffer ≡ drop i buffer₀)
 
 abbrev μ-loop : tie.MeasureT-loop
 μ-loop buffer₀ from to left i₀ buffer i = left - i
+
+-- The places of the code that the answers name.
+abbrev Start : Type 0
+Start = tie.Start Inv-loop μ-loop
+
+abbrev Turn : Type 0
+Turn = tie.At-loop Inv-loop μ-loop
 
 sub-left : tie.Need-sub-left Inv-loop μ-loop
 sub-left c = omega (arith, c .pre .0)
@@ -38,18 +46,22 @@ loop-less c = omega arith
 
 loop-again : tie.Need-loop-again Inv-loop μ-loop
 loop-again c =
-    let h = c .before .before .loop in
-    let a = c .before .before .before .args in
+    let start : Start = search in
+    let turn : Turn = search in
+    let h = turn .loop in
+    let a = start .args in
     let more = moved-more (h .i) (a .from) (h .buffer) (now (a .buffer)) (omega arith) (omega arith) (h .inv .2) (h .inv .3) in
     (omega arith, length-set (h .buffer) (h .i) _ ∙ h .inv .1, more .0, more .1)
 
 same-length : tie.Need-same-length Inv-loop μ-loop
-same-length c = c .before .loop .inv .1
+same-length c = let turn : Turn = search in turn .loop .inv .1
 
 returns : tie.Need-returns Inv-loop μ-loop
 returns c =
-    let h = c .before .loop in
-    let a = c .before .before .args in
+    let start : Start = search in
+    let turn : Turn = search in
+    let h = turn .loop in
+    let a = start .args in
     let all : h .i ≡ a .to - a .from = omega arith in
     rw (← all) (h .inv .2)
 

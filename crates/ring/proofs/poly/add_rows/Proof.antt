@@ -1,25 +1,26 @@
 -- `ring::poly::add_rows` meets its contract: after k turns the first k coefficients have their four terms.
 -- Assumes nothing.
-use mathlib.Core.Path.{_≡_, refl, _∙_}
-use Prim.Native.Nat.{_-_, _≤_}
+use mathlib.Core.Path.{refl, _∙_}
+use Prim.Native.Nat.{_-_}
 use native.Mathlib.Omega.{arith}
 use borrow.Author.Needs.{needs}
-use denote.Ref.{now}
-use lib.ListN.{length, getD, length-set}
-use Rattle.bits.proofs.Filling.{filled, filled-none, filled-more, filled-at, filled-all}
+use lib.ListN.{length}
 use Rattle.ring.specs.Terms.{addFour}
+use Rattle.bits.proofs.Filling.{Filling, filling-begun, filling-more, filling-at, filling-all}
 use Rattle.ring.proofs.poly.add_rows.Statement.{statement}
 use Rattle.ring.proofs.poly.add_rows.Tie as tie
 
 abbrev Inv-loop : tie.InvT-loop
-Inv-loop acc₀ row a b c d k₀ acc k =
-    (k ≤ length acc₀) × (length acc ≡ length acc₀) × (acc ≡ filled k (addFour acc₀ row a b c d) acc₀)
+Inv-loop acc₀ row a b c d k₀ acc k = Filling (addFour acc₀ row a b c d) acc₀ k acc
 
 abbrev μ-loop : tie.MeasureT-loop
 μ-loop acc₀ row a b c d k₀ acc k = length acc₀ - k
 
+abbrev Turn : Type 0
+Turn = tie.At-loop Inv-loop μ-loop
+
 loop-holds : tie.Need-loop-holds Inv-loop μ-loop
-loop-holds c = (omega arith, refl, filled-none _ _)
+loop-holds c = filling-begun
 
 mul-add-term : tie.Need-mul-add-term Inv-loop μ-loop
 mul-add-term c = omega arith
@@ -87,24 +88,21 @@ loop-less c = omega arith
 loop-again : tie.Need-loop-again Inv-loop μ-loop
 unfolding addFour
 loop-again c =
-    let h = c .before .before .before .before .before .before .before .before .before .before .loop in
-    let a = c .before .before .before .before .before .before .before .before .before .before .before .before .before .args in
-    let f = addFour (now (a .acc)) (now (a .row)) (a .a) (a .b) (a .c) (a .d) in
-    let here : getD (h .acc) (h .k) 0 ≡ getD (now (a .acc)) (h .k) 0 = filled-at (h .k) (h .k) f (now (a .acc)) 0 (omega arith) (h .inv .2) in (
-      omega arith,
-      simp length-set (h .inv .1),
-      filled-more (h .k) f (now (a .acc)) 0 (omega arith) (h .inv .2)
-          (c .add-term4 .ensures ∙ rw (c .before .before .add-term3 .ensures, c .before .before .before .before .add-term2 .ensures, c .before .before .before .before .before .before .add-term .ensures, here)),
-    )
+    let turn : Turn = search in
+    let one : tie.After-add-term Inv-loop μ-loop = search in
+    let two : tie.After-add-term2 Inv-loop μ-loop = search in
+    let three : tie.After-add-term3 Inv-loop μ-loop = search in
+    filling-more 0 (turn .loop .inv) (omega arith)
+    (c .add-term4 .ensures
+    ∙ rw (three .add-term3 .ensures, two .add-term2 .ensures, one .add-term .ensures, filling-at 0 (turn .loop .inv) {j = turn .loop .k} (omega arith)))
 
 same-length : tie.Need-same-length Inv-loop μ-loop
-same-length c = c .before .loop .inv .1
+same-length c = search needs
 
 returns : tie.Need-returns Inv-loop μ-loop
 returns c =
-    let h = c .before .loop in
-    let a = c .before .before .before .before .args in
-    filled-all (h .k) (length (now (a .acc))) (addFour (now (a .acc)) (now (a .row)) (a .a) (a .b) (a .c) (a .d)) (now (a .acc)) refl (omega arith) (omega arith) (h .inv .2)
+    let turn : Turn = search in
+    filling-all (turn .loop .inv) refl (omega arith)
 
 pub add-rows-spec : {M : Type 1} → statement M
 add-rows-spec =

@@ -1,26 +1,36 @@
 -- `ring::poly::centre` meets its contract: after k turns the first k values are centred.
 -- Assumes nothing.
-use mathlib.Core.Path.{_≡_, refl, ap, _∙_}
-use Prim.Native.Nat.{ℕ, _-_, _≤_}
+use mathlib.Core.Path.{refl, ap, _∙_}
+use Prim.Native.Nat.{ℕ, _-_}
 use native.Mathlib.Omega.{arith}
 use borrow.Author.Needs.{needs}
-use denote.Ref.{now}
-use lib.ListN.{length, getD, length-set}
-use Rattle.bits.proofs.Filling.{filled, filled-none, filled-more, filled-at, filled-all}
+use lib.ListN.{length, getD}
 use Rattle.ring.specs.Integers.{residue, centred}
 use Rattle.ring.specs.Poly.{residues}
+use mathlib.Core.List.{List}
+use Rattle.bits.proofs.Filling.{Filling, filling-begun, filling-more, filling-at, filling-all}
 use Rattle.ring.proofs.poly.centre.Statement.{statement}
 use Rattle.ring.proofs.poly.centre.Tie as tie
 
+-- The values less p.
+abbrev centres : List ℕ → ℕ → ℕ → ℕ
+centres xs p j = residue 65536 (centred p (getD xs j 0))
+
 abbrev Inv-loop : tie.InvT-loop
-Inv-loop xs₀ p k₀ xs k =
-    (k ≤ length xs₀) × (length xs ≡ length xs₀) × (xs ≡ filled k (λ j. residue 65536 (centred p (getD xs₀ j 0))) xs₀)
+Inv-loop xs₀ p k₀ xs k = Filling (centres xs₀ p) xs₀ k xs
 
 abbrev μ-loop : tie.MeasureT-loop
 μ-loop xs₀ p k₀ xs k = length xs₀ - k
 
+-- The places of the code that the answers name.
+abbrev Start : Type 0
+Start = tie.Start Inv-loop μ-loop
+
+abbrev Turn : Type 0
+Turn = tie.At-loop Inv-loop μ-loop
+
 loop-holds : tie.Need-loop-holds Inv-loop μ-loop
-loop-holds c = (omega arith, refl, filled-none _ _)
+loop-holds c = filling-begun
 
 mul-difference : tie.Need-mul-difference Inv-loop μ-loop
 mul-difference c = omega arith
@@ -45,22 +55,19 @@ loop-less c = omega arith
 
 loop-again : tie.Need-loop-again Inv-loop μ-loop
 loop-again c =
-    let h = c .before .before .before .loop in
-    let a = c .before .before .before .before .before .args in (
-      omega arith,
-      simp length-set (h .inv .1),
-      filled-more (h .k) (λ j. residue 65536 (centred (a .p) (getD (now (a .xs)) j 0))) (now (a .xs)) 0 (omega arith) (h .inv .2) (c .difference .ensures ∙ ap (λ (m : ℕ). residue 65536 (centred (a .p) m)) (filled-at (h .k) (h .k) _ (now (a .xs)) 0 (omega arith) (h .inv .2))),
-    )
+    let start : Start = search in
+    let turn : Turn = search in
+    filling-more 0 (turn .loop .inv) (omega arith)
+    (c .difference .ensures ∙ ap (λ (m : ℕ). residue 65536 (centred (start .args .p) m)) (filling-at 0 (turn .loop .inv) (omega arith)))
 
 same-length : tie.Need-same-length Inv-loop μ-loop
-same-length c = c .before .loop .inv .1
+same-length c = search needs
 
 returns : tie.Need-returns Inv-loop μ-loop
 unfolding residues
 returns c =
-    let h = c .before .loop in
-    let a = c .before .before .before .args in
-    filled-all (h .k) (length (now (a .xs))) (λ j. residue 65536 (centred (a .p) (getD (now (a .xs)) j 0))) (now (a .xs)) refl (omega arith) (omega arith) (h .inv .2)
+    let turn : Turn = search in
+    filling-all (turn .loop .inv) refl (omega arith)
 
 pub centre-spec : {M : Type 1} → statement M
 centre-spec =

@@ -1,23 +1,30 @@
 -- `ring::poly::copy` meets its contract: after k turns the first k coefficients are copied.
 -- Assumes nothing.
-use mathlib.Core.Path.{_≡_, refl, _∙_}
-use Prim.Native.Nat.{_-_, _≤_}
+use mathlib.Core.Path.{refl, _∙_}
+use Prim.Native.Nat.{_-_}
 use native.Mathlib.Omega.{arith}
 use denote.Ref.{now}
-use lib.ListN.{length, getD, length-set}
-use Rattle.bits.proofs.Filling.{filled, filled-none, filled-more, filled-all, tabulate-entries}
+use lib.ListN.{length, getD}
+use Rattle.bits.proofs.Filling.{tabulate-entries, Filling, filling-begun, filling-more, filling-all}
+use borrow.Author.Needs.{needs}
 use Rattle.ring.proofs.poly.copy.Statement.{statement}
 use Rattle.ring.proofs.poly.copy.Tie as tie
 
 abbrev Inv-loop : tie.InvT-loop
-Inv-loop src dst₀ k₀ dst k =
-    (k ≤ length dst₀) × (length dst ≡ length dst₀) × (dst ≡ filled k (λ j. getD src j 0) dst₀)
+Inv-loop src dst₀ k₀ dst k = Filling (λ j. getD src j 0) dst₀ k dst
 
 abbrev μ-loop : tie.MeasureT-loop
 μ-loop src dst₀ k₀ dst k = length dst₀ - k
 
+-- The places of the code that the answers name.
+abbrev Start : Type 0
+Start = tie.Start Inv-loop μ-loop
+
+abbrev Turn : Type 0
+Turn = tie.At-loop Inv-loop μ-loop
+
 loop-holds : tie.Need-loop-holds Inv-loop μ-loop
-loop-holds c = (omega arith, refl, filled-none _ _)
+loop-holds c = filling-begun
 
 mul-dst : tie.Need-mul-dst Inv-loop μ-loop
 mul-dst c = omega arith
@@ -39,22 +46,17 @@ loop-less c = omega arith
 
 loop-again : tie.Need-loop-again Inv-loop μ-loop
 loop-again c =
-    let h = c .before .before .loop in
-    let a = c .before .before .before .args in (
-      omega arith,
-      simp length-set (h .inv .1),
-      filled-more (h .k) (λ j. getD (now (a .src)) j 0) (now (a .dst)) 0 (omega arith) (h .inv .2) refl,
-    )
+    let turn : Turn = search in
+    filling-more 0 (turn .loop .inv) (omega arith) refl
 
 same-length : tie.Need-same-length Inv-loop μ-loop
-same-length c = c .before .loop .inv .1
+same-length c = search needs
 
 returns : tie.Need-returns Inv-loop μ-loop
 returns c =
-    let h = c .before .loop in
-    let a = c .before .before .args in
-    filled-all (h .k) (length (now (a .src))) (λ j. getD (now (a .src)) j 0) (now (a .dst)) (omega arith) (omega arith) (omega arith) (h .inv .2)
-    ∙ tabulate-entries (now (a .src)) 0
+    let start : Start = search in
+    let turn : Turn = search in
+    filling-all (turn .loop .inv) (omega arith) (omega arith) ∙ tabulate-entries (now (start .args .src)) 0
 
 pub copy-spec : {M : Type 1} → statement M
 copy-spec =

@@ -1,17 +1,13 @@
 -- `ring::poly::double` meets its contract: the negated factor, then the factor.
 -- Assumes nothing.
-use mathlib.Core.List.{List, _++_}
-use mathlib.Core.Path.{_≡_, ap, _∙_}
-use Prim.Native.Nat.{ℕ}
+use mathlib.Core.List.{_++_}
+use mathlib.Core.Path.{_≡_, ap, _∙_, ap₂}
 use native.Mathlib.Omega.{arith}
 use borrow.Author.Needs.{needs}
 use denote.Ref.{now}
-use lib.IntN.{negℤ}
-use lib.ListN.{length, drop, length-take}
-use lib.Seq.{take-at}
-use Rattle.keccak.proofs.Parts.{patched-rest}
+use lib.ListN.{length, length-take}
 use Rattle.ring.proofs.Residues.{length-residues}
-use Rattle.ring.specs.Poly.{ofNats, residues}
+use Rattle.keccak.proofs.Parts.{both-parts}
 use Rattle.ring.proofs.poly.double.Statement.{statement}
 use Rattle.ring.proofs.poly.double.Tie as tie
 
@@ -44,14 +40,12 @@ same-length c = search needs
 
 returns : tie.Need-returns
 returns c =
-    let a = c .before .before .before .before .before .before .before .before .before .before .args in
-    let n = length (now (a .b)) in
-    let front = c .before .before .before .before .before .before .negate .last .1 .0 in
-    let back = c .before .before .copy .last .1 .0 in
-    let e = c .before .before .before .before .before .before .negate .ensures in
-    let long : length front ≡ n = ap length e ∙ length-residues 65536 n (λ k. negℤ (ofNats (now (a .b)) k)) in
-    patched-rest n back (front ++ drop n (now (a .row))) ∙ ap (λ (l : List ℕ). l ++ back) (take-at front (drop n (now (a .row))) n long)
-    ∙ ap (λ (l : List ℕ). l ++ back) e ∙ ap (λ (l : List ℕ). residues 65536 n (λ k. negℤ (ofNats (now (a .b)) k)) ++ l) (c .before .before .copy .ensures)
+    let start : tie.Start = search in
+    let front : tie.After-negate = search in
+    let back : tie.After-copy = search in
+    let long : length (front .negate .last .1 .0) ≡ length (now (start .args .b)) = ap length (front .negate .ensures) ∙ length-residues 65536 _ _ in
+    both-parts (length (now (start .args .b))) (front .negate .last .1 .0) (back .copy .last .1 .0) (now (start .args .row)) long
+    ∙ ap₂ _++_ (front .negate .ensures) (back .copy .ensures)
 
 pub double-spec : {M : Type 1} → statement M
 double-spec =

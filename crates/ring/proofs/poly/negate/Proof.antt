@@ -1,27 +1,38 @@
 -- `ring::poly::negate` meets its contract: after k turns the first k coefficients are negated.
 -- Assumes nothing.
-use mathlib.Core.Path.{_≡_, refl, ap, _∙_}
-use Prim.Native.Nat.{_-_, _≤_}
+use mathlib.Core.Path.{ap, _∙_}
+use Prim.Native.Nat.{_-_, ℕ}
 use native.Mathlib.Omega.{arith}
 use borrow.Author.Needs.{needs}
 use denote.Ref.{now}
 use lib.IntN.{negℤ, +ℤ-idl}
-use lib.ListN.{length, length-set}
-use Rattle.bits.proofs.Filling.{filled, filled-none, filled-more, filled-all}
+use lib.ListN.{length}
 use Rattle.ring.specs.Integers.{residue}
 use Rattle.ring.specs.Poly.{ofNats, residues}
+use mathlib.Core.List.{List}
+use Rattle.bits.proofs.Filling.{Filling, filling-begun, filling-more, filling-all}
 use Rattle.ring.proofs.poly.negate.Statement.{statement}
 use Rattle.ring.proofs.poly.negate.Tie as tie
 
+-- The coefficients negated.
+abbrev negatives : List ℕ → ℕ → ℕ
+negatives src j = residue 65536 (negℤ (ofNats src j))
+
 abbrev Inv-loop : tie.InvT-loop
-Inv-loop src dst₀ k₀ dst k =
-    (k ≤ length dst₀) × (length dst ≡ length dst₀) × (dst ≡ filled k (λ j. residue 65536 (negℤ (ofNats src j))) dst₀)
+Inv-loop src dst₀ k₀ dst k = Filling (negatives src) dst₀ k dst
 
 abbrev μ-loop : tie.MeasureT-loop
 μ-loop src dst₀ k₀ dst k = length dst₀ - k
 
+-- The places of the code that the answers name.
+abbrev Start : Type 0
+Start = tie.Start Inv-loop μ-loop
+
+abbrev Turn : Type 0
+Turn = tie.At-loop Inv-loop μ-loop
+
 loop-holds : tie.Need-loop-holds Inv-loop μ-loop
-loop-holds c = (omega arith, refl, filled-none _ _)
+loop-holds c = filling-begun
 
 mul-difference : tie.Need-mul-difference Inv-loop μ-loop
 mul-difference c = omega arith
@@ -46,22 +57,19 @@ loop-less c = omega arith
 
 loop-again : tie.Need-loop-again Inv-loop μ-loop
 loop-again c =
-    let h = c .before .before .before .loop in
-    let a = c .before .before .before .before .before .before .args in (
-      omega arith,
-      simp length-set (h .inv .1),
-      filled-more (h .k) (λ j. residue 65536 (negℤ (ofNats (now (a .src)) j))) (now (a .dst)) 0 (omega arith) (h .inv .2) (c .difference .ensures ∙ ap (residue 65536) (+ℤ-idl (negℤ (ofNats (now (a .src)) (h .k))))),
-    )
+    let start : Start = search in
+    let turn : Turn = search in
+    filling-more 0 (turn .loop .inv) (omega arith)
+    (c .difference .ensures ∙ ap (residue 65536) (+ℤ-idl (negℤ (ofNats (now (start .args .src)) (turn .loop .k)))))
 
 same-length : tie.Need-same-length Inv-loop μ-loop
-same-length c = c .before .loop .inv .1
+same-length c = search needs
 
 returns : tie.Need-returns Inv-loop μ-loop
 unfolding residues
 returns c =
-    let h = c .before .loop in
-    let a = c .before .before .before .before .args in
-    filled-all (h .k) (length (now (a .src))) (λ j. residue 65536 (negℤ (ofNats (now (a .src)) j))) (now (a .dst)) (omega arith) (omega arith) (omega arith) (h .inv .2)
+    let turn : Turn = search in
+    filling-all (turn .loop .inv) (omega arith) (omega arith)
 
 pub negate-spec : {M : Type 1} → statement M
 negate-spec =

@@ -1,27 +1,38 @@
 -- `ring::poly::subtract` meets its contract: after k turns the first k coefficients are subtracted.
 -- Assumes nothing.
-use mathlib.Core.Path.{_≡_, refl, ap, _∙_}
-use Prim.Native.Nat.{ℕ, _-_, _≤_}
+use mathlib.Core.Path.{refl, ap, _∙_}
+use Prim.Native.Nat.{ℕ, _-_}
 use native.Mathlib.Omega.{arith}
 use borrow.Author.Needs.{needs}
 use denote.Ref.{now}
 use lib.IntN.{pos, _-ℤ_}
-use lib.ListN.{length, length-set}
-use Rattle.bits.proofs.Filling.{filled, filled-none, filled-more, filled-at, filled-all}
+use lib.ListN.{length}
 use Rattle.ring.specs.Integers.{residue}
 use Rattle.ring.specs.Poly.{minus, ofNats, residues}
+use mathlib.Core.List.{List}
+use Rattle.bits.proofs.Filling.{Filling, filling-begun, filling-more, filling-at, filling-all}
 use Rattle.ring.proofs.poly.subtract.Statement.{statement}
 use Rattle.ring.proofs.poly.subtract.Tie as tie
 
+-- The coefficients of the difference.
+abbrev differences : List ℕ → List ℕ → ℕ → ℕ
+differences acc b j = residue 65536 (minus (ofNats acc) (ofNats b) j)
+
 abbrev Inv-loop : tie.InvT-loop
-Inv-loop acc₀ b k₀ acc k =
-    (k ≤ length acc₀) × (length acc ≡ length acc₀) × (acc ≡ filled k (λ j. residue 65536 (minus (ofNats acc₀) (ofNats b) j)) acc₀)
+Inv-loop acc₀ b k₀ acc k = Filling (differences acc₀ b) acc₀ k acc
 
 abbrev μ-loop : tie.MeasureT-loop
 μ-loop acc₀ b k₀ acc k = length acc₀ - k
 
+-- The places of the code that the answers name.
+abbrev Start : Type 0
+Start = tie.Start Inv-loop μ-loop
+
+abbrev Turn : Type 0
+Turn = tie.At-loop Inv-loop μ-loop
+
 loop-holds : tie.Need-loop-holds Inv-loop μ-loop
-loop-holds c = (omega arith, refl, filled-none _ _)
+loop-holds c = filling-begun
 
 mul-difference : tie.Need-mul-difference Inv-loop μ-loop
 mul-difference c = omega arith
@@ -52,22 +63,20 @@ loop-less c = omega arith
 
 loop-again : tie.Need-loop-again Inv-loop μ-loop
 loop-again c =
-    let h = c .before .before .before .before .loop in
-    let a = c .before .before .before .before .before .before .before .args in (
-      omega arith,
-      simp length-set (h .inv .1),
-      filled-more (h .k) (λ j. residue 65536 (minus (ofNats (now (a .acc))) (ofNats (now (a .b))) j)) (now (a .acc)) 0 (omega arith) (h .inv .2) (c .difference .ensures ∙ ap (λ (m : ℕ). residue 65536 (pos m -ℤ ofNats (now (a .b)) (h .k))) (filled-at (h .k) (h .k) _ (now (a .acc)) 0 (omega arith) (h .inv .2))),
-    )
+    let start : Start = search in
+    let turn : Turn = search in
+    filling-more 0 (turn .loop .inv) (omega arith)
+    (c .difference .ensures
+    ∙ ap (λ (m : ℕ). residue 65536 (pos m -ℤ ofNats (now (start .args .b)) (turn .loop .k))) (filling-at 0 (turn .loop .inv) (omega arith)))
 
 same-length : tie.Need-same-length Inv-loop μ-loop
-same-length c = c .before .loop .inv .1
+same-length c = search needs
 
 returns : tie.Need-returns Inv-loop μ-loop
 unfolding residues
 returns c =
-    let h = c .before .loop in
-    let a = c .before .before .before .before .args in
-    filled-all (h .k) (length (now (a .acc))) (λ j. residue 65536 (minus (ofNats (now (a .acc))) (ofNats (now (a .b))) j)) (now (a .acc)) refl (omega arith) (omega arith) (h .inv .2)
+    let turn : Turn = search in
+    filling-all (turn .loop .inv) refl (omega arith)
 
 pub subtract-spec : {M : Type 1} → statement M
 subtract-spec =

@@ -18,8 +18,9 @@ length-of-requires c κs = search needs
 
 returns : tie.Need-returns
 returns c =
-    let p = c .before .before .args .p in
-    (c .length-of .ensures .0 ∙ ap (λ (w : ℕ). lengthOf p 1 (w - 1)) (c .before .width .ensures), c .length-of .ensures .1)
+    let start : tie.Start = search in
+    let after-width : tie.After-width = search in
+    (c .length-of .ensures .0 ∙ ap (λ (w : ℕ). lengthOf (start .args .p) 1 (w - 1)) (after-width .width .ensures), c .length-of .ensures .1)
 
 pub high-spec : {M : Type 1} → statement M
 high-spec = tie.close (tie.spec width-requires sub-length-of length-of-requires returns)

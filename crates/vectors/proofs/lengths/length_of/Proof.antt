@@ -10,18 +10,22 @@ use Rattle.vectors.proofs.lengths.length_of.Tie as tie
 
 mul-result : tie.Need-mul-result
 mul-result c =
-    let b = part-bound (c .before .args .p) (c .before .pre .0) (c .before .pre .2) in
+    let start : tie.Start = search in
+    let b = part-bound (start .args .p) (start .pre .0) (start .pre .2) in
     omega (arith, b)
 
 mul-result-2 : tie.Need-mul-result-2
 unfolding lengthOf
 mul-result-2 c =
-    let b = length-bound (c .before .args .p) (c .before .pre .0) (c .before .pre .1) (c .before .pre .2) in
+    let start : tie.Start = search in
+    let b = length-bound (start .args .p) (start .pre .0) (start .pre .1) (start .pre .2) in
     omega (arith, b)
 
 returns : tie.Need-returns
 unfolding lengthOf
-returns c = (refl, length-bound (c .before .args .p) (c .before .pre .0) (c .before .pre .1) (c .before .pre .2))
+returns c =
+    let start : tie.Start = search in
+    (refl, length-bound (start .args .p) (start .pre .0) (start .pre .1) (start .pre .2))
 
 pub length-of-spec : {M : Type 1} → statement M
 length-of-spec = tie.close (tie.spec mul-result mul-result-2 returns)

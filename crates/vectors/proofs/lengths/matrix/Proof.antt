@@ -9,11 +9,14 @@ use Rattle.vectors.proofs.lengths.matrix.Tie as tie
 
 mul-length-of : tie.Need-mul-length-of
 mul-length-of c =
-    let b = square (c .before .pre .few) in
+    let start : tie.Start = search in
+    let b = square (start .pre .few) in
     omega (arith, b)
 
 length-of-requires : tie.Need-length-of-requires
-length-of-requires c κs = (c .before .pre, square (c .before .pre .few), c .before .pre .word)
+length-of-requires c κs =
+    let start : tie.Start = search in
+    (start .pre, square (start .pre .few), start .pre .word)
 
 returns : tie.Need-returns
 returns c = search needs

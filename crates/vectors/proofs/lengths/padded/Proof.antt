@@ -18,8 +18,10 @@ length-of-requires c κs = search needs
 
 returns : tie.Need-returns
 returns c =
-    let p = c .before .before .before .args .p in
-    (c .length-of .ensures .0 ∙ ap (lengthOf p (p .l + 1)) (c .before .width .ensures), c .length-of .ensures .1)
+    let start : tie.Start = search in
+    let after-width : tie.After-width = search in
+    let p = start .args .p in
+    (c .length-of .ensures .0 ∙ ap (lengthOf p (p .l + 1)) (after-width .width .ensures), c .length-of .ensures .1)
 
 pub padded-spec : {M : Type 1} → statement M
 padded-spec = tie.close (tie.spec add-length-of width-requires length-of-requires returns)

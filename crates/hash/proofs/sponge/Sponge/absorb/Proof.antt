@@ -1,38 +1,44 @@
 -- `hash::sponge::Sponge::absorb` meets its contract: after each turn the sponge has absorbed what stands before `done`.
 -- Assumes nothing.
-use mathlib.Core.Path.{_≡_, refl, sym, ap, _∙_, subst}
-use Prim.Native.Nat.{_≤_, _-_}
+use mathlib.Core.Path.{refl, ap, _∙_}
+use Prim.Native.Nat.{_-_}
 use native.Mathlib.Omega.{arith}
 use denote.Ref.{now}
-use lib.ListN.{length, take, length-take, length-drop}
+use lib.ListN.{length, length-take, length-drop}
 use lib.Seq.{take-all}
-use Rattle.hash.proofs.Steps.{Ready, is-ready-as, sound-absorbed, absorb-more}
 use Rattle.hash.proofs.sponge.Sponge.absorb.Statement.{statement}
-use Rattle.hash.specs.Stream.{Sound, absorbed}
+use Rattle.hash.specs.Stream.{absorbed}
+use Rattle.hash.proofs.Steps.{Absorbing, absorbing-ready, absorbing-more}
 use Rattle.hash.proofs.sponge.Sponge.absorb.Tie as tie
 
 abbrev Inv-loop : tie.InvT-loop
-Inv-loop input s₀ done₀ s done = (done ≤ length input) × (s ≡ absorbed s₀ (take done input))
+Inv-loop input s₀ done₀ s done = Absorbing s₀ input done s
 
 abbrev μ-loop : tie.MeasureT-loop
 μ-loop input s₀ done₀ s done = length input - done
 
--- At the loop's head the sponge is sound, so it has a place left once it is ready.
-sound-here : (c : tie.At-loop Inv-loop μ-loop) → Sound (c .loop .s)
-sound-here c = subst Sound (sym (c .loop .inv .1)) (sound-absorbed _ _ (c .before .before .pre))
+-- The places of the code that the answers name.
+abbrev Turn : Type 0
+Turn = tie.At-loop Inv-loop μ-loop
 
-ready-here : (c : tie.After-ready Inv-loop μ-loop) → Ready (c .before .before .loop .s) (c .ready .result)
-ready-here c = is-ready-as _ _ (sound-here (c .before .before)) (c .ready .ensures)
+abbrev After-ready : Type 0
+After-ready = tie.After-ready Inv-loop μ-loop
 
 loop-holds : tie.Need-loop-holds Inv-loop μ-loop
 unfolding absorbed
-loop-holds c = (omega arith, refl)
+loop-holds c =
+    let start : tie.Start Inv-loop μ-loop = search in
+    record { begun = start .pre; within = omega arith; is = refl }
 
 ready-requires : tie.Need-ready-requires Inv-loop μ-loop
 ready-requires c κs = tt
 
 sub-least : tie.Need-sub-least Inv-loop μ-loop
-sub-least c = omega (arith, ready-here (c .before))
+sub-least c =
+    let turn : Turn = search in
+    let made : After-ready = search in
+    let t = absorbing-ready (turn .loop .inv) (made .ready .ensures) in
+    omega (arith, t)
 
 sub-least-2 : tie.Need-sub-least-2 Inv-loop μ-loop
 sub-least-2 c = omega arith
@@ -53,29 +59,36 @@ part-absorb-part-end : tie.Need-part-absorb-part-end Inv-loop μ-loop
 part-absorb-part-end c = omega arith
 
 absorb-part-requires : tie.Need-absorb-part-requires Inv-loop μ-loop
-absorb-part-requires c κs = simp (length-take, length-drop) (omega (arith, ready-here (c .before .before .before), c .before .least .ensures))
+absorb-part-requires c κs =
+    let turn : Turn = search in
+    let made : After-ready = search in
+    let least : tie.After-least Inv-loop μ-loop = search in
+    let t = absorbing-ready (turn .loop .inv) (made .ready .ensures) in
+    simp (length-take, length-drop) (omega (arith, t, least .least .ensures))
 
 add-done : tie.Need-add-done Inv-loop μ-loop
 add-done c = omega arith
 
 loop-less : tie.Need-loop-less Inv-loop μ-loop
-loop-less c = omega (arith, ready-here (c .before .before .before .before))
+loop-less c =
+    let turn : Turn = search in
+    let made : After-ready = search in
+    let t = absorbing-ready (turn .loop .inv) (made .ready .ensures) in
+    omega (arith, t)
 
 loop-again : tie.Need-loop-again Inv-loop μ-loop
 loop-again c =
-    let h = c .before .before .before .before .before .before .loop in
-    let t = ready-here (c .before .before .before .before) in
-    let a = c .before .before .before .before .before .before .before .before .args in (
-      omega arith,
-      absorb-more (a .self) (h .s) _ _ (now (a .input)) (h .done) (c .before .before .least .result) (sound-here (c .before .before .before .before .before .before)) (h .inv .1)
-          (c .before .before .before .before .ready .ensures) (omega (arith, t .room)) (omega arith) (c .absorb-part .ensures),
-    )
+    let turn : Turn = search in
+    let made : After-ready = search in
+    let least : tie.After-least Inv-loop μ-loop = search in
+    let t = absorbing-ready (turn .loop .inv) (made .ready .ensures) in
+    absorbing-more (turn .loop .inv) (made .ready .ensures) (least .least .result) (omega (arith, t .room)) (omega arith) (c .absorb-part .ensures)
 
 returns : tie.Need-returns Inv-loop μ-loop
 returns c =
-    let h = c .before .loop in
-    let a = c .before .before .before .args in
-    h .inv .1 ∙ ap (absorbed (a .self)) (take-all (h .done) (now (a .input)) (omega arith))
+    let start : tie.Start Inv-loop μ-loop = search in
+    let turn : Turn = search in
+    turn .loop .inv .is ∙ ap (absorbed (start .args .self)) (take-all (turn .loop .done) (now (start .args .input)) (omega arith))
 
 pub absorb-spec : {M : Type 1} → statement M
 absorb-spec =

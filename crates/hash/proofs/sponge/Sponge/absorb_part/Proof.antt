@@ -17,7 +17,8 @@ part-bytes-start c = search needs
 
 part-bytes-end : tie.Need-part-bytes-end
 part-bytes-end c =
-    let long : length (c .before .before .args .self .bytes) ≡ 200 = search needs in
+    let start : tie.Start = search in
+    let long : length (start .args .self .bytes) ≡ 200 = search needs in
     omega arith
 
 xor-into-requires : tie.Need-xor-into-requires
@@ -28,9 +29,11 @@ add-t12 c = search needs
 
 returns : tie.Need-returns
 returns c =
-    let a = c .before .before .before .before .before .args in
+    let start : tie.Start = search in
+    let after-xor-into : tie.After-xor-into = search in
+    let a = start .args in
     let long : length (a .self .bytes) ≡ 200 = search needs in
-    part-absorbed (a .self) 200 (c .before .xor-into .last .0) (now (a .part)) long (c .before .before .before .before .before .pre .0) (c .before .xor-into .ensures)
+    part-absorbed (a .self) 200 (after-xor-into .xor-into .last .0) (now (a .part)) long (start .pre .0) (after-xor-into .xor-into .ensures)
 
 pub absorb-part-spec : {M : Type 1} → statement M
 absorb-part-spec =

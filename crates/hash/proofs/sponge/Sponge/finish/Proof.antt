@@ -11,26 +11,31 @@ ready-requires : tie.Need-ready-requires
 ready-requires c κs = search needs
 
 -- The place and the rate of the ready sponge are within the string.
-ready-here : (c : tie.After-ready) → Ready (c .before .args .self) (c .ready .result)
-ready-here c = is-ready-as _ _ (c .before .pre) (c .ready .ensures)
+ready-here : (c : tie.After-ready) →
+    let start : tie.Start = search in
+    Ready (start .args .self) (c .ready .result)
+ready-here c = let start : tie.Start = search in is-ready-as _ _ (start .pre) (c .ready .ensures)
 
 sub-last : tie.Need-sub-last
-sub-last c = omega (arith, ready-here (c .before .before))
+sub-last c = omega (arith, ready-here (search))
 
 array-read-bytes : tie.Need-array-read-bytes
-array-read-bytes c = omega (arith, ready-here (c .before .before))
+array-read-bytes c = omega (arith, ready-here (search))
 
 array-write-bytes : tie.Need-array-write-bytes
-array-write-bytes c = omega (arith, ready-here (c .before .before))
+array-write-bytes c = omega (arith, ready-here (search))
 
 array-read-bytes-2 : tie.Need-array-read-bytes-2
-array-read-bytes-2 c = omega (arith, ready-here (c .before .before))
+array-read-bytes-2 c = omega (arith, ready-here (search))
 
 array-write-bytes-2 : tie.Need-array-write-bytes-2
-array-write-bytes-2 c = omega (arith, ready-here (c .before .before))
+array-write-bytes-2 c = omega (arith, ready-here (search))
 
 returns : tie.Need-returns
-returns c = finish-is (c .before .before .before .args .self) (c .before .before .ready .result) (c .before .before .before .pre) (c .before .before .ready .ensures)
+returns c =
+    let start : tie.Start = search in
+    let after-ready : tie.After-ready = search in
+    finish-is (start .args .self) (after-ready .ready .result) (start .pre) (after-ready .ready .ensures)
 
 pub finish-spec : {M : Type 1} → statement M
 finish-spec =

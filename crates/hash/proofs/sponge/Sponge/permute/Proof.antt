@@ -13,7 +13,9 @@ permute-requires c κs = search needs
 
 returns : tie.Need-returns
 unfolding permuted
-returns c = ap (λ (l : List ℕ). sponge l 0 (c .before .before .args .self .rate)) (c .permute .ensures)
+returns c =
+    let start : tie.Start = search in
+    ap (λ (l : List ℕ). sponge l 0 (start .args .self .rate)) (c .permute .ensures)
 
 pub permute-spec : {M : Type 1} → statement M
 permute-spec = tie.close (tie.spec permute-requires returns)

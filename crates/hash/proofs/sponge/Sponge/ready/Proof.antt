@@ -10,10 +10,13 @@ permute-requires : tie.Need-permute-requires
 permute-requires c κs = search needs
 
 returns : tie.Need-returns
-returns c = c .permute .ensures ∙ sym (ready-full (c .before .before .before .args .self) (c .before .if1 .taken))
+returns c =
+    let start : tie.Start = search in
+    let then1 : tie.Then1 = search in
+    c .permute .ensures ∙ sym (ready-full (start .args .self) (then1 .if1 .taken))
 
 returns-2 : tie.Need-returns-2
-returns-2 c = sym (ready-other (c .before .before .args .self) (c .if1 .left))
+returns-2 c = let start : tie.Start = search in sym (ready-other (start .args .self) (c .if1 .left))
 
 pub ready-spec : {M : Type 1} → statement M
 ready-spec = tie.close (tie.spec permute-requires returns returns-2)

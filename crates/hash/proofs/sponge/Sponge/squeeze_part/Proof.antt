@@ -20,7 +20,8 @@ part-copy-start c = search needs
 
 part-copy-end : tie.Need-part-copy-end
 part-copy-end c =
-    let long : length (c .before .before .before .before .args .self .bytes) ≡ 200 = search needs in
+    let start : tie.Start = search in
+    let long : length (start .args .self .bytes) ≡ 200 = search needs in
     omega arith
 
 copy-requires : tie.Need-copy-requires
@@ -31,9 +32,11 @@ same-length c = search needs
 
 returns : tie.Need-returns
 returns c =
-    let a = c .before .before .before .before .before .before .before .before .args in
+    let start : tie.Start = search in
+    let after-copy : tie.After-copy = search in
+    let a = start .args in
     let long : length (a .self .bytes) ≡ 200 = search needs in
-    part-squeezed (a .self) (length (now (a .part))) _ (c .before .before .before .before .before .before .before .before .pre .0) (omega arith) (c .before .before .copy .ensures)
+    part-squeezed (a .self) (length (now (a .part))) _ (start .pre .0) (omega arith) (after-copy .copy .ensures)
 
 pub squeeze-part-spec : {M : Type 1} → statement M
 squeeze-part-spec =
