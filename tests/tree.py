@@ -19,6 +19,14 @@ KNOWN = re.compile(
 # The first folders of a build machine's absolute paths; the group keeps this line from matching.
 MACHINE_PATH = re.compile(r"(?<![\w.-])/(?:work|root|home|opt|Users|mnt|srv)/")
 
+# A proof finds a place of the code by its type and does not count the steps back to it (docs/KIT-NOTES.md):
+# so many steps may be left in all, and a chain of three or more only in a file with a comment on `.before`.
+STEPS_LEFT = 100
+CHAIN = re.compile(r"(?:\.before\s+){2}\.before(?![\w-])")
+LONGEST_LINE = 160
+# A crate that goes as it is, with the next change of the noise.
+GOING = {"signed_product"}
+
 # What the prover says of a proof file that names a need that the edited code no longer has.
 STALE = "that can be named from here"
 
@@ -125,6 +133,23 @@ def check_edits():
             yield f"{relative(edit)} is refused because a proof file no longer fits, not because a fact fails: {error[:500]}"
 
 
+def check_proofs():
+    steps = 0
+    for path in sorted(CRATES.glob("*/proofs/**/*.antt")):
+        if path.relative_to(CRATES).parts[0] in GOING:
+            continue
+        text = path.read_text()
+        code = re.sub(r"^\s*--.*$", "", text, flags=re.MULTILINE)
+        steps += len(re.findall(r"\.before(?![\w-])", code))
+        if CHAIN.search(code) and not re.search(r"^\s*--.*\.before", text, re.MULTILINE):
+            yield f"{relative(path)} counts three places back or more and does not say why"
+        for number, line in enumerate(text.splitlines(), 1):
+            if len(line) > LONGEST_LINE and " " in line.strip():
+                yield f"{relative(path)}:{number} has {len(line)} characters, over {LONGEST_LINE}"
+    if steps > STEPS_LEFT:
+        yield f"the proofs count {steps} places back, over {STEPS_LEFT}"
+
+
 def committed_files():
     if (ROOT / ".git").exists():
         command = ["git", "ls-files", "-z", "--cached", "--others", "--exclude-standard"]
@@ -148,7 +173,7 @@ def check_paths():
                 yield f"{relative(path)}:{number} has an absolute path of a machine: {line.strip()[:200]}"
 
 
-CHECKS = [check_crates, check_kinds, check_format, check_exports, check_edits, check_paths]
+CHECKS = [check_crates, check_kinds, check_format, check_exports, check_proofs, check_edits, check_paths]
 
 
 def main():

@@ -4,7 +4,8 @@ use mathlib.Core.Path.{_≡_, sym, _∙_}
 use mathlib.Core.List.{List}
 use Prim.Native.Nat.{ℕ, _≤_}
 use native.Mathlib.Omega.{arith}
-use lib.ListN.{length}
+use lib.ListN.{length, take}
+use lib.Seq.{length-take-le}
 use Rattle.kindi.specs.declared.Params.{Params}
 use Rattle.kindi.specs.Params.{WellFormed, ofSet, decryptWork}
 use Rattle.kindi.specs.Calls.{workAfter, decryptCall, decapsCall}
@@ -15,9 +16,9 @@ use Rattle.decryption_calls.specs.Fitting.{decryptFitting, decapsFitting
 use Rattle.decryption_calls.specs.Exits.{DecryptExit, DecapsExit}
 use Rattle.decryption_calls.proofs.Calls.{decrypt-checked, DecryptLengths, decrypt-lengths, decaps-checked, DecapsLengths, decaps-lengths}
 
--- Coins fit into 64 bytes.
-pub coins-fit : (P : Params) → WellFormed P → P .coins ≤ 64
-coins-fit P w = omega (arith, w .coin-bits, w .short)
+-- Coins fit into a room of 64 bytes.
+pub coins-room : (P : Params) (room : List ℕ) → WellFormed P → length room ≡ 64 → length (take (P .coins) room) ≡ P .coins
+coins-room P room w l = length-take-le (P .coins) room (omega (arith, w .coin-bits, w .short))
 
 -- ---- decrypt
 

@@ -146,9 +146,13 @@ search-room {P} {list = list} at room h l kept = record {
 -- ---- b
 
 -- The polynomials of a public key, in full, fit into 3072 bytes.
-pub value-fits : (P : Params) → WellFormed P → lengthOf P (P .l) (P .k) ≤ 3072
+value-fits : (P : Params) → WellFormed P → lengthOf P (P .l) (P .k) ≤ 3072
 unfolding lengthOf
 value-fits P w =
     let part : P .n / 8 * P .k ≤ 2 * P .n = omega (arith, mul-le-mul-left (P .n / 8) (w .word), w .eights) in
     let all : P .l * (P .n / 8 * P .k) ≤ P .l * (2 * P .n) = mul-le-mul-left (P .l) part in
     omega (arith, all, mul-left-comm (P .l) 2 (P .n), w .vector)
+
+-- A room of 3072 bytes has place for them.
+pub value-room : (P : Params) (room : List ℕ) {n : ℕ} → WellFormed P → n ≡ lengthOf P (P .l) (P .k) → length room ≡ 3072 → n ≤ length room
+value-room P room w e l = omega (arith, value-fits P w)

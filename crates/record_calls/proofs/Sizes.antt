@@ -1,23 +1,22 @@
 -- What is lent to the calls over bodies has room for every set: bounds of the lengths, over all parameters that are well formed.
 -- Assumes nothing.
 use mathlib.Core.Path.{_≡_}
-use Prim.Native.Nat.{ℕ, _+_, _*_, _/_, _≤_, _<_}
+use Prim.Native.Nat.{ℕ, _+_, _*_, _/_, _≤_}
 use native.Mathlib.Nat.{mul-assoc, mul-le-mul-left, mul-le-mul-right}
 use native.Mathlib.Omega.{arith}
 use Rattle.kindi.specs.declared.Params.{Params}
-use Rattle.kindi.specs.Params.{WellFormed, lengthOf, width, storedLength, publicLength, secretLength, ciphertextLength, paddedLength, secretsLength, lowLength, highLength, restLength, keygenWork, encryptWork}
+use Rattle.kindi.specs.Params.{WellFormed, lengthOf, width, storedLength, publicLength, secretLength, ciphertextLength, paddedLength}
+use Rattle.kindi.specs.Params.{secretsLength, lowLength, highLength, restLength, keygenWork, encryptWork}
 use Rattle.vectors.proofs.Amounts.{length-add, length-le}
 use Rattle.record_calls.specs.Outputs.{firstMost, secondMost}
 
 -- The lengths of a set's strings, all of which fit.
 pub record Sized (P : Params) : Type 0 where
-  pub seed-fits : P .seed ≤ 512
   pub coins-fit : P .coins ≤ 1024
   pub public-fits : publicLength P ≤ firstMost
   pub secret-fits : secretLength P ≤ secondMost
   pub cipher-fits : ciphertextLength P ≤ 3584
   pub padded-fits : paddedLength P ≤ 1024
-  pub some-padded : 0 < paddedLength P
   pub keygen-fits : keygenWork P ≤ 65536
   pub encrypt-fits : encryptWork P ≤ 65536
 
@@ -43,15 +42,18 @@ sized P W =
     let rest : restLength P ≤ paddedLength P = length-le P (width P) (omega arith) in
     let less = length-le P {a = P .l} {b = P .l + 1} (width P) (omega arith) in
     let twice : 2 * P .l ≡ P .l + P .l = omega arith in
-    let secrets : secretsLength P ≤ paddedLength P + paddedLength P = rw (twice, length-add P (P .l) (P .l) (width P)) (omega (arith, less)) in
+    let secrets : secretsLength P ≤ paddedLength P + paddedLength P =
+    rw (twice, length-add P (P .l) (P .l) (width P)) (omega (arith, less)) in
     record {
-      seed-fits = W .seed-fits;
       coins-fit = omega (arith, W .digest-fits, W .padded-fits);
       public-fits = omega (arith, W .cipher-fits, W .seed-fits, more, stored);
       secret-fits = omega (arith, W .cipher-fits, W .seed-fits, more, stored);
       cipher-fits = W .cipher-fits;
       padded-fits = W .padded-fits;
-      some-padded = omega (arith, W .digest-fits);
       keygen-fits = omega (arith, W .cipher-fits, W .padded-fits, more, square, secrets);
       encrypt-fits = omega (arith, W .cipher-fits, W .padded-fits, more, square, low, one, high, rest);
     }
+
+-- One of them by itself: where it is listed, `omega` applies it to the parameters that are well formed.
+pub secret-short : {P : Params} → WellFormed P → secretLength P ≤ secondMost
+secret-short {P} W = sized P W .secret-fits

@@ -15,7 +15,7 @@ use Rattle.records.specs.Header.{headerLength, isMarked, kindOf, setOf, 
 -- A header is left, with its mark; its body has this length.
 pub record Marked (rest : List ℕ) (body : ℕ) : Type 0 where
   pub enough : headerLength ≤ length rest
-  pub mark : isMarked rest ≡ true
+  pub mark : not (isMarked rest) ≡ false
   pub is-body : body ≡ bodyLength rest
 
 module _ (rest : List ℕ) where
@@ -30,13 +30,15 @@ module _ (rest : List ℕ) where
   read-short some few = simp (ne-eqb _ _ some, lt-ltb _ _ few)
 
   -- The mark is another one.
-  pub read-unmarked : 6 ≤ length rest → isMarked rest ≡ false → Unmarked ≡ readHeader rest
+  pub read-unmarked : 6 ≤ length rest → not (isMarked rest) ≡ true → Unmarked ≡ readHeader rest
   unfolding readHeader
   read-unmarked enough e = simp (ne-eqb (length rest) 0 (omega arith), le-ltb (length rest) 6 enough, e)
 
   module _ (body : ℕ) (m : Marked rest body) where
     -- The checks of length and mark have passed.
-    marked : readHeader rest ≡ cond (isCut (length rest) body) Cut (cond (not (isKind (kindOf rest))) (Unknown (kindOf rest) body) (Whole (kindOf rest) (setOf rest) body))
+    marked : readHeader rest
+        ≡ cond (isCut (length rest) body) Cut
+        (cond (not (isKind (kindOf rest))) (Unknown (kindOf rest) body) (Whole (kindOf rest) (setOf rest) body))
     unfolding readHeader
     marked = simp (ne-eqb (length rest) 0 (omega (arith, m .enough)), le-ltb (length rest) 6 (m .enough), m .mark, m .is-body)
 
@@ -45,11 +47,12 @@ module _ (rest : List ℕ) where
     read-cut e = sym (marked ∙ rw e refl)
 
     -- There is no such kind.
-    pub read-unknown : isCut (length rest) body ≡ false → isKind (kindOf rest) ≡ false → Unknown (kindOf rest) body ≡ readHeader rest
+    pub read-unknown : isCut (length rest) body ≡ false → not (isKind (kindOf rest)) ≡ true → Unknown (kindOf rest) body ≡ readHeader rest
     read-unknown e k = sym (marked ∙ rw (e, k) refl)
 
     -- The header is whole.
-    pub read-whole : isCut (length rest) body ≡ false → isKind (kindOf rest) ≡ true → Whole (kindOf rest) (setOf rest) body ≡ readHeader rest
+    pub read-whole : isCut (length rest) body ≡ false → not (isKind (kindOf rest)) ≡ false
+        → Whole (kindOf rest) (setOf rest) body ≡ readHeader rest
     read-whole e k = sym (marked ∙ rw (e, k) refl)
 
 -- ---- what a header that is read says
@@ -102,7 +105,8 @@ record-there rest so =
     let c4 = past (isCut (length rest) (bodyLength rest)) Cut _ refl (c3 .so) in
     let there = neither (ltb 8192 (bodyLength rest)) (ltb (length rest) (6 + bodyLength rest)) (c4 .passed) in
     let is : bodyOf (readHeader rest) ≡ bodyLength rest
-    = ap bodyOf (c1 .same ∙ c2 .same ∙ c3 .same ∙ c4 .same) ∙ last-body (not (isKind (kindOf rest))) (kindOf rest) (setOf rest) (bodyLength rest) in
+    = ap bodyOf (c1 .same ∙ c2 .same ∙ c3 .same ∙ c4 .same)
+    ∙ last-body (not (isKind (kindOf rest))) (kindOf rest) (setOf rest) (bodyLength rest) in
     omega (arith, ltb-false (length rest) (6 + bodyLength rest) there, is)
 
 -- So it is of a whole header, and of one whose kind there is not.

@@ -18,7 +18,8 @@ use Rattle.lines.proofs.Texts.{feeds-append, line-feeds, kind-feeds, end-feeds}
 use Rattle.records.specs.declared.header.Header.{Header}
 use Rattle.records.specs.declared.header.Header.the-variants.{Whole, End, Short, Unmarked, Cut, Unknown}
 use Rattle.records.specs.Header.{headerNumber, readHeader, showsRecord}
-use Rattle.records.specs.Record.{Step, finished, stopped, answers, stepBy, step, mostRecords, stepLine, doneAfter, consumed, readingEnds}
+use Rattle.records.specs.Record.{Step, finished, stopped, answers, stepBy, step, mostRecords, stepLine}
+use Rattle.records.specs.Record.{doneAfter, consumed, readingEnds}
 use Rattle.records.specs.Transcript.{linesOf, linesFrom, recordLines, transcript, Run, ends, goes-on}
 use Rattle.records.proofs.Stepping.{never-true}
 use Rattle.records.proofs.Windows.{window-step, shown-step}
@@ -47,7 +48,8 @@ text-more done l ls =
 
 -- Where reading ends with a step, the text is its line and the last line.
 ends-text : (done most : ℕ) (s : Step) (rest : List ℕ) → done + suc most ≡ mostRecords → readingEnds done s ≡ true
-    → stepLine (suc done) s ++ endLine (doneAfter done s) ≡ text done (linesOf (suc done) s (λ size. linesFrom most (suc (suc done)) (drop size rest)))
+    → stepLine (suc done) s ++ endLine (doneAfter done s)
+    ≡ text done (linesOf (suc done) s (λ size. linesFrom most (suc (suc done)) (drop size rest)))
 unfolding readingEnds stepLine doneAfter linesOf linesFrom
 ends-text done most finished rest all e = sym (text-none done)
 ends-text done most (stopped status) rest all e = sym (text-one done (stepLine (suc done) (stopped status)))
@@ -82,19 +84,24 @@ run-text : (done : ℕ) (rest written : List ℕ) → Run done rest written → 
 unfolding linesFrom
 run-text done rest written (ends _ _ window _ w e is) most all =
     let same = window-step window rest w in
-    is ∙ ap (λ (x : Step). stepLine (suc done) x ++ endLine (doneAfter done x)) same ∙ ends-text done most (step rest) rest all (rw same at e)
-run-text done rest written (goes-on _ _ window later _ w e more is) zero all = absurd (omega (arith, goes-on-less done (step window) e .not-last))
+    is ∙ ap (λ (x : Step). stepLine (suc done) x ++ endLine (doneAfter done x)) same
+    ∙ ends-text done most (step rest) rest all (rw same at e)
+run-text done rest written (goes-on _ _ window later _ w e more is) zero all =
+    absurd (omega (arith, goes-on-less done (step window) e .not-last))
 run-text done rest written (goes-on _ _ window later _ w e more is) (suc most) all =
     let on = goes-on-less done (step window) e in
-    let later-is = run-text (doneAfter done (step window)) (drop (consumed (step window)) rest) later more most (omega (arith, on .one-more)) in
+    let later-is = run-text (doneAfter done (step window)) (drop (consumed (step window)) rest) later more most
+    (omega (arith, on .one-more)) in
     is ∙ goes-on-text done (suc most) (step window) rest later e later-is
-    ∙ ap (λ (x : Step). text done (linesOf (suc done) x (λ size. linesFrom (suc most) (suc (suc done)) (drop size rest)))) (window-step window rest w)
+    ∙ ap (λ (x : Step). text done (linesOf (suc done) x (λ size. linesFrom (suc most) (suc (suc done)) (drop size rest))))
+    (window-step window rest w)
 
 -- From the start of an input it is the transcript.
 pub run-transcript : (input written : List ℕ) → Run 0 input written → written ≡ transcript input
 unfolding transcript recordLines
 run-transcript input written r =
-    run-text 0 input written r 65534 refl ∙ ap (λ (n : ℕ). concatMap (λ l. l) (linesFrom 65535 1 input) ++ endLine n) (zero-add (length (linesFrom 65535 1 input)))
+    run-text 0 input written r 65534 refl
+    ∙ ap (λ (n : ℕ). concatMap (λ l. l) (linesFrom 65535 1 input) ++ endLine n) (zero-add (length (linesFrom 65535 1 input)))
 
 -- ---- where reading ends
 
@@ -151,7 +158,8 @@ one-feed : (i : ℕ) (s : Step) → (s ≡ finished → ⊥) → feeds (stepLine
 unfolding stepLine
 one-feed i finished some = absurd (some refl)
 one-feed i (stopped status) some = line-feeds i (kindField false 0) status [] (kind-feeds false 0)
-one-feed i (answers kind answer size) some = line-feeds i (kindField true kind) (number answer) (output answer (λ o. o) []) (kind-feeds true kind)
+one-feed i (answers kind answer size) some =
+    line-feeds i (kindField true kind) (number answer) (output answer (λ o. o) []) (kind-feeds true kind)
 
 lines-of-feeds : (i : ℕ) (s : Step) (following : ℕ → List (List ℕ))
     → ((size : ℕ) → feeds (concatMap (λ l. l) (following size)) ≡ length (following size))

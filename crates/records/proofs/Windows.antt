@@ -9,32 +9,58 @@ use native.Mathlib.Nat.{add-comm}
 use native.Mathlib.Numerals.{add-one}
 use native.Mathlib.Omega.{arith}
 use borrow.Author.Tests.{le-leb, lt-leb, le-ltb, lt-ltb, ne-eqb, ltb-false, leb-true}
-use lib.ListN.{length, take, drop, getD, set, length-drop, length-append, List·getD-append, take-append-drop}
+use lib.ListN.{length, take, drop, getD, set, length-set, length-drop, length-append, List·getD-append, take-append-drop}
 use lib.Dec.{eqb, leb, ltb}
 use lib.Seq.{take-suc, take-suc-set, drop-set-lt, drop-drop, getD-drop, take-append-le, drop-append-le}
 use Rattle.kindi.proofs.Chains.{both}
 use Rattle.record_calls.specs.Bodies.{recordAnswer}
 use Rattle.records.specs.declared.header.Header.{Header}
 use Rattle.records.specs.declared.header.Header.the-variants.{Whole, End, Short, Unmarked, Cut, Unknown}
-use Rattle.records.specs.Header.{headerLength, longestBody, isMarked, kindOf, setOf, bodyLength, isCut, isKind, readHeader, showsRecord}
+use Rattle.records.specs.Header.{headerLength, longestBody, isMarked, kindOf, setOf, bodyLength, isCut, isKind}
+use Rattle.records.specs.Header.{readHeader, showsRecord}
 use Rattle.records.specs.Record.{answers, stepBy, step, consumed}
 use Rattle.records.specs.Transcript.{Window}
 use Rattle.records.proofs.Headers.{Marked, whole-there, unknown-there}
 
 -- ---- moving to the front
 
--- One byte more has been moved, and what stands behind it is as it was.
-pub moved-more : (i from : ℕ) (b b₀ : List ℕ) → from + i < length b₀ → i < length b → take i b ≡ take i (drop from b₀) → drop i b ≡ drop i b₀
-    → (take (i + 1) (set b i (getD b (from + i) 0)) ≡ take (i + 1) (drop from b₀)) × (drop (i + 1) (set b i (getD b (from + i) 0)) ≡ drop (i + 1) b₀)
-moved-more i from b b₀ there room so-far behind =
-    let v = getD b (from + i) 0 in
-    let left : i < length (drop from b₀) = simp length-drop (omega arith) in
-    let is : v ≡ getD (drop from b₀) i 0
-    = ap (λ (k : ℕ). getD b k 0) (add-comm from i) ∙ sym (getD-drop i b from 0) ∙ ap (λ (l : List ℕ). getD l from 0) behind
-    ∙ getD-drop i b₀ from 0 ∙ ap (λ (k : ℕ). getD b₀ k 0) (add-comm i from) ∙ sym (getD-drop from b₀ i 0) in (
-      rw add-one (take-suc-set b i v room ∙ ap₂ (λ (l : List ℕ) (x : ℕ). l ++ (x ∷ [])) so-far is ∙ sym (take-suc (drop from b₀) i 0 left)),
-      drop-set-lt (i + 1) b i v (omega arith) ∙ sym (drop-drop 1 i b) ∙ ap (drop 1) behind ∙ drop-drop 1 i b₀,
-    )
+-- What `to_front` carries: the part stands within the buffer b₀, i bytes of it have been moved to the front, and what stands behind
+-- them is as it was.
+pub record Moved (b₀ : List ℕ) (from left i : ℕ) (b : List ℕ) : Type 0 where
+  pub there : from + left ≤ length b₀
+  pub within : i ≤ left
+  pub long : length b ≡ length b₀
+  pub so-far : take i b ≡ take i (drop from b₀)
+  pub behind : drop i b ≡ drop i b₀
+
+module _ {b₀ : List ℕ} {from left i : ℕ} {b : List ℕ} (h : Moved b₀ from left i b) where
+  -- The byte that is read is still the one of the part.
+  read-byte : getD b (from + i) 0 ≡ getD (drop from b₀) i 0
+  read-byte =
+      ap (λ (k : ℕ). getD b k 0) (add-comm from i) ∙ sym (getD-drop i b from 0) ∙ ap (λ (l : List ℕ). getD l from 0) (h .behind)
+      ∙ getD-drop i b₀ from 0 ∙ ap (λ (k : ℕ). getD b₀ k 0) (add-comm i from) ∙ sym (getD-drop from b₀ i 0)
+
+  -- One byte more.
+  pub moved-more : i < left → Moved b₀ from left (i + 1) (set b i (getD b (from + i) 0))
+  moved-more in-it =
+      let v = getD b (from + i) 0 in
+      let room : i < length b = omega arith in
+      let inside : i < length (drop from b₀) = simp length-drop (omega arith) in
+      record {
+        there = h .there;
+        within = omega arith;
+        long = length-set b i v ∙ h .long;
+        so-far = rw add-one
+            (take-suc-set b i v room ∙ ap₂ (λ (l : List ℕ) (x : ℕ). l ++ (x ∷ [])) (h .so-far) read-byte
+            ∙ sym (take-suc (drop from b₀) i 0 inside));
+        behind = drop-set-lt (i + 1) b i v (omega arith) ∙ sym (drop-drop 1 i b) ∙ ap (drop 1) (h .behind) ∙ drop-drop 1 i b₀;
+      }
+
+  -- After the last byte.
+  pub moved-all : left ≤ i → take left b ≡ take left (drop from b₀)
+  moved-all last =
+      let all : i ≡ left = omega arith in
+      rw (← all) (h .so-far)
 
 -- ---- what a window shows
 
@@ -44,7 +70,7 @@ pub shown-short : (window : List ℕ) → length window < 6 → false ≡ showsR
 unfolding showsRecord
 shown-short window few = simp (lt-leb 6 (length window) few)
 
-pub shown-unmarked : (window : List ℕ) → 6 ≤ length window → isMarked window ≡ false → true ≡ showsRecord window
+pub shown-unmarked : (window : List ℕ) → 6 ≤ length window → not (isMarked window) ≡ true → true ≡ showsRecord window
 unfolding showsRecord
 shown-unmarked window enough e = simp (le-leb 6 (length window) enough, e)
 
@@ -73,31 +99,34 @@ or-true false = refl
 pub longest-shown : (window : List ℕ) → headerLength + longestBody ≤ length window → showsRecord window ≡ true
 unfolding showsRecord
 longest-shown window h =
-    simp (le-leb 6 (length window) (omega arith), over-or-there (ltb 8192 (bodyLength window)) (bodyLength window) (length window) refl h, or-true)
+    let there = over-or-there (ltb 8192 (bodyLength window)) (bodyLength window) (length window) refl h in
+    simp (le-leb 6 (length window) (omega arith), there, or-true)
 
 -- ---- a window and what follows it
 
--- The header by its fields and what is left.
+-- The header by its fields and what is left: the checks after that of the mark, and all.
+abbrev afterMark : ℕ → ℕ → ℕ → ℕ → Header
+afterMark left kind set body = cond (isCut left body) Cut (cond (not (isKind kind)) (Unknown kind body) (Whole kind set body))
+
 abbrev headerBy : ℕ → Bool → ℕ → ℕ → ℕ → Header
 headerBy left marked kind set body =
-    cond (eqb left 0) End
-    (cond (ltb left 6) Short
-    (cond (not marked) Unmarked
-    (cond (isCut left body) Cut
-    (cond (not (isKind kind)) (Unknown kind body)
-    (Whole kind set body)))))
+    cond (eqb left 0) End (cond (ltb left 6) Short (cond (not marked) Unmarked (afterMark left kind set body)))
 
--- More of what is left changes nothing, once the record is shown.
+-- More of what is left changes nothing, once the record is shown: the checks of the mark, the length and the kind, and all checks.
+same-checks : (left more : ℕ) (marked over : Bool) (kind set body : ℕ) → ltb 8192 body ≡ over
+    → not marked || (over || leb (6 + body) left) ≡ true
+    → cond (not marked) Unmarked (afterMark (left + more) kind set body) ≡ cond (not marked) Unmarked (afterMark left kind set body)
+same-checks left more false over kind set body e s = refl
+same-checks left more true true kind set body e s = simp e
+same-checks left more true false kind set body e s =
+    let there = leb-true (6 + body) left s in
+    simp (le-ltb (left + more) (6 + body) (omega arith), le-ltb left (6 + body) there)
+
 longer : (left more : ℕ) (marked over : Bool) (kind set body : ℕ) → ltb 8192 body ≡ over → 6 ≤ left
     → not marked || (over || leb (6 + body) left) ≡ true → headerBy (left + more) marked kind set body ≡ headerBy left marked kind set body
-longer left more false over kind set body e h s =
+longer left more marked over kind set body e h s =
     simp (ne-eqb (left + more) 0 (omega arith), le-ltb (left + more) 6 (omega arith), ne-eqb left 0 (omega arith), le-ltb left 6 h)
-longer left more true true kind set body e h s =
-    simp (ne-eqb (left + more) 0 (omega arith), le-ltb (left + more) 6 (omega arith), ne-eqb left 0 (omega arith), le-ltb left 6 h, e)
-longer left more true false kind set body e h s =
-    let there = leb-true (6 + body) left s in
-    simp
-    (ne-eqb (left + more) 0 (omega arith), le-ltb (left + more) 6 (omega arith), ne-eqb left 0 (omega arith), le-ltb left 6 h, le-ltb (left + more) (6 + body) (omega arith), le-ltb left (6 + body) there)
+    (same-checks left more marked over kind set body e s)
 
 module _ (window more : List ℕ) where
   -- A window that shows its record has the header of the whole rest.
@@ -107,9 +136,10 @@ module _ (window more : List ℕ) where
       let shown = both _ _ e in
       let h : 6 ≤ length window = leb-true 6 (length window) (shown .0) in
       let at : (i : ℕ) → i < 6 → getD (window ++ more) i 0 ≡ getD window i 0 = λ i l. List·getD-append window more 0 i (omega arith) in
-      rw
-      (length-append window more, at 0 (omega arith), at 1 (omega arith), at 2 (omega arith), at 3 (omega arith), at 4 (omega arith), at 5 (omega arith))
-      (longer (length window) (length more) (isMarked window) (ltb 8192 (bodyLength window)) (kindOf window) (setOf window) (bodyLength window) refl h (shown .1))
+      let over = ltb 8192 (bodyLength window) in
+      rw (length-append window more, at 0 (omega arith), at 1 (omega arith), at 2 (omega arith))
+      (rw (at 3 (omega arith), at 4 (omega arith), at 5 (omega arith))
+      (longer (length window) (length more) (isMarked window) over (kindOf window) (setOf window) (bodyLength window) refl h (shown .1)))
 
   -- Its body is there.
   same-body : (body : ℕ) → 6 + body ≤ length window → take body (drop 6 (window ++ more)) ≡ take body (drop 6 window)
@@ -137,12 +167,14 @@ pub window-step : (window rest : List ℕ) → Window window rest → step windo
 window-step window rest w =
     ⊎-elim
     (λ e.
-    let whole : window ++ drop (length window) rest ≡ rest = ap (λ (l : List ℕ). l ++ drop (length window) rest) (w .front) ∙ take-append-drop (length window) rest in
+    let whole : window ++ drop (length window) rest ≡ rest
+    = ap (λ (l : List ℕ). l ++ drop (length window) rest) (w .front) ∙ take-append-drop (length window) rest in
     sym (shown-step window (drop (length window) rest) e) ∙ ap step whole)
     (λ e. ap step e) (w .enough)
 
 -- So does one of the longest record, or longer.
-pub longest-step : (window rest : List ℕ) → window ≡ take (length window) rest → headerLength + longestBody ≤ length window → step window ≡ step rest
+pub longest-step : (window rest : List ℕ) → window ≡ take (length window) rest → headerLength + longestBody ≤ length window
+    → step window ≡ step rest
 longest-step window rest front long = window-step window rest (record { front = front; enough = inl (longest-shown window long) })
 
 -- A step reads no more than is left.

@@ -1,30 +1,21 @@
 -- `lines::put` meets its contract.
 -- Assumes nothing.
 use borrow.Author.Needs.{needs}
-use denote.Ref.{now}
 use Rattle.lines.proofs.Texts.{written-byte}
 use Rattle.lines.proofs.put.Statement.{statement}
 use Rattle.lines.proofs.put.Tie as tie
-use Rattle.lines.proofs.put.Reads as reads
-use Rattle.lines.proofs.put.Lts as lts
 
--- src/lib.rt:14:5
 slice-write-out : tie.Need-slice-write-out
 slice-write-out c = search needs
 
--- src/lib.rt:15:5
 add-result : tie.Need-add-result
 add-result c = search needs
 
--- src/lib.rt:10:1
 same-length : tie.Need-same-length
 same-length c = search needs
 
--- src/lib.rt:10:1
 returns : tie.Need-returns
-returns c =
-    let a = c .args in
-    written-byte (now (a .out)) (a .at) (a .b) (c .pre)
+returns c = written-byte _ _ _ (c .pre)
 
 pub put-spec : {M : Type 1} → statement M
 put-spec = tie.close (tie.spec slice-write-out add-result same-length returns)

@@ -22,15 +22,7 @@ step-requires c κs = search needs
 
 add-t11 : tie.Need-add-t11
 unfolding windowOf
-add-t11 c =
-    let start : tie.Start = search in
-    let after-step : tie.After-step = search in
-    omega (
-      arith,
-      after-step .step .ensures .consumed-is,
-      reads-within (start .args .s) (now (start .args .input)) (start .pre .in-order),
-      start .pre .in-input,
-    )
+add-t11 c = let start : tie.Start = search in omega (arith, reads-within (start .args .s) (now (start .args .input)) (search needs))
 
 same-length : tie.Need-same-length
 same-length c = search needs
@@ -45,11 +37,7 @@ same-length-4 : tie.Need-same-length-4
 same-length-4 c = search needs
 
 returns : tie.Need-returns
-returns c =
-    let start : tie.Start = search in
-    let after-step : tie.After-step = search in
-    answered (start .args .s) (now (start .args .input)) (now (start .args .out)) (after-step .step .last .1 .1 .1 .0)
-    (after-step .step .ensures)
+returns c = let stepped : tie.After-step = search in answered (stepped .step .ensures)
 
 pub answer-spec : {M : Type 1} → statement M
 answer-spec =

@@ -1,37 +1,29 @@
 -- `linkcheck::fill` meets its contract: what is left to read falls with every read, and what was left stays at the front.
 -- Assumes nothing.
 use mathlib.Core.Bool.{cond}
-use mathlib.Core.Path.{_≡_, refl, sym, _∙_}
-use Prim.Native.Nat.{_+_, _-_, _≤_}
+use mathlib.Core.Path.{sym, _∙_}
+use Prim.Native.Nat.{_+_, _-_}
 use native.Mathlib.Omega.{arith}
-use borrow.Rule.Slice.PartMut.{same-len-mid}
-use denote.Ref.{now}
+use borrow.Author.Needs.{needs}
 use lib.Seq.{length-take-le}
-use lib.ListN.{length, take}
+use lib.ListN.{length}
 use Rattle.records.proofs.Stepping.{never-true}
-use Rattle.linkcheck.proofs.Laws.{read-falls, read-behind, filled}
+use Rattle.linkcheck.proofs.Laws.{Reading, read-falls, read-behind, filled}
 use Rattle.linkcheck.proofs.fill.Statement.{statement}
 use Rattle.linkcheck.proofs.fill.Tie as tie
 
 abbrev Inv-loop : tie.InvT-loop
-Inv-loop s input₀ from to end₀ more₀ input end more =
-    (end ≤ length input) × (length input ≡ length input₀) × (to - from ≤ end) × (take (to - from) input ≡ take (to - from) input₀)
+Inv-loop s input₀ from to end₀ more₀ input end more = Reading input₀ (to - from) input end
 
 abbrev μ-loop : tie.MeasureT-loop
 μ-loop s input₀ from to end₀ more₀ input end more = (length input - end) + cond more 1 0
 
 -- The places of the code that the answers name.
-abbrev Start : Type 0
-Start = tie.Start Inv-loop μ-loop
-
-abbrev After-to-front : Type 0
-After-to-front = tie.After-to-front Inv-loop μ-loop
+abbrev Front : Type 0
+Front = tie.After-to-front Inv-loop μ-loop
 
 abbrev Turn : Type 0
 Turn = tie.At-loop Inv-loop μ-loop
-
-abbrev After-read : Type 0
-After-read = tie.After-read Inv-loop μ-loop
 
 to-front-requires : tie.Need-to-front-requires Inv-loop μ-loop
 to-front-requires c κs = omega arith
@@ -40,15 +32,13 @@ sub-end : tie.Need-sub-end Inv-loop μ-loop
 sub-end c = omega arith
 
 loop-holds : tie.Need-loop-holds Inv-loop μ-loop
-loop-holds c = (omega arith, refl, omega arith, refl)
+loop-holds c = search needs
 
 slice-reshare-prefix-shows-record : tie.Need-slice-reshare-prefix-shows-record Inv-loop μ-loop
 slice-reshare-prefix-shows-record c = omega arith
 
 slice-aggregate-shows-record : tie.Need-slice-aggregate-shows-record Inv-loop μ-loop
-slice-aggregate-shows-record c =
-    let turn : Turn = search in
-    sym (length-take-le _ _ (turn .loop .inv .0))
+slice-aggregate-shows-record c = sym (length-take-le _ _ (search needs))
 
 shows-record-requires : tie.Need-shows-record-requires Inv-loop μ-loop
 shows-record-requires c κs = omega arith
@@ -81,52 +71,36 @@ add-end : tie.Need-add-end Inv-loop μ-loop
 add-end c = omega arith
 
 loop-less : tie.Need-loop-less Inv-loop μ-loop
-loop-less c =
-    let turn : Turn = search in
-    let in-loop : tie.In-loop Inv-loop μ-loop = search in
-    let after-read : After-read = search in
-    let h = turn .loop in
-    let long = same-len-mid (h .end) (length (h .input) - h .end) (h .input) (after-read .read .last .1 .0)
-    (after-read .read .kept .1 .0) in
-    rw (long, in-loop .loop-test .taken) (read-falls (length (h .input)) (h .end) (c .count .result) (omega arith))
+loop-less c = let test : tie.In-loop Inv-loop μ-loop = search in read-falls _ _ (test .loop-test .taken) (omega arith) (omega arith)
 
 loop-again : tie.Need-loop-again Inv-loop μ-loop
 loop-again c =
-    let start : Start = search in
     let turn : Turn = search in
-    let after-read : After-read = search in
-    let h = turn .loop in
-    let s = start .args .s in (
-      omega arith,
-      omega arith,
-      omega (arith, h .inv .2),
-      read-behind (s .to - s .from) (h .end) (h .input) (after-read .read .last .1 .0) (h .inv .2) (h .inv .0) ∙ h .inv .3,
-    )
+    let read : tie.After-read Inv-loop μ-loop = search in
+    record {
+      within = omega arith;
+      long = omega arith;
+      some = omega arith;
+      same = read-behind (read .read .last .1 .0) (turn .loop .inv);
+    }
 
 same-length : tie.Need-same-length Inv-loop μ-loop
 same-length c = omega arith
 
 returns : tie.Need-returns Inv-loop μ-loop
 returns c =
-    let start : Start = search in
-    let after-to-front : After-to-front = search in
+    let front : Front = search in
     let turn : Turn = search in
-    filled (start .args .s) (now (start .args .input)) (after-to-front .to-front .last .0) (turn .loop .input) (turn .loop .end)
-    (turn .loop .more) (turn .loop .inv .0) (omega arith) (turn .loop .inv .2) (turn .loop .inv .3) (after-to-front .to-front .ensures)
-    (λ e. never-true (sym e ∙ c .loop-test .left))
+    filled (turn .loop .inv) (omega arith) (front .to-front .ensures) (λ e. never-true (sym e ∙ c .loop-test .left))
 
 same-length-2 : tie.Need-same-length-2 Inv-loop μ-loop
 same-length-2 c = omega arith
 
 returns-2 : tie.Need-returns-2 Inv-loop μ-loop
 returns-2 c =
-    let start : Start = search in
-    let after-to-front : After-to-front = search in
+    let front : Front = search in
     let turn : Turn = search in
-    let after-shows-record : tie.After-shows-record Inv-loop μ-loop = search in
-    filled (start .args .s) (now (start .args .input)) (after-to-front .to-front .last .0) (turn .loop .input) (turn .loop .end)
-    (turn .loop .more) (turn .loop .inv .0) (omega arith) (turn .loop .inv .2) (turn .loop .inv .3) (after-to-front .to-front .ensures)
-    (λ e. sym (after-shows-record .shows-record .ensures) ∙ c .if1 .taken)
+    filled (turn .loop .inv) (omega arith) (front .to-front .ensures) (λ e. cc)
 
 pub fill-spec : {M : Type 1} → statement M
 fill-spec =

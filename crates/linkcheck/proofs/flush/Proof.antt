@@ -7,7 +7,7 @@ use Rattle.linkcheck.proofs.flush.Statement.{statement}
 use Rattle.linkcheck.proofs.flush.Tie as tie
 
 slice-aggregate-write-all : tie.Need-slice-aggregate-write-all
-slice-aggregate-write-all c = let start : tie.Start = search in sym (length-take-le _ _ (start .pre))
+slice-aggregate-write-all c = sym (length-take-le _ _ (search needs))
 
 write-all-requires : tie.Need-write-all-requires
 write-all-requires c κs = search needs

@@ -3,7 +3,6 @@
 use mathlib.Core.Path.{sym, _∙_}
 use borrow.Author.Tests.{not-true}
 use borrow.Author.Needs.{needs}
-use denote.Ref.{now}
 use Rattle.records.proofs.Stepping.{never-true}
 use Rattle.linkcheck.specs.Turns.{windowOf}
 use Rattle.linkcheck.proofs.Laws.{ready-before, ready-filled}
@@ -16,10 +15,8 @@ make-room-requires c κs = search needs
 returns : tie.Need-returns
 returns c =
     let start : tie.Start = search in
-    let then1 : tie.Then1 = search in
-    ready-before (start .args .s) (c .make-room .result) (now (start .args .input)) (now (start .args .out)) (start .pre)
-    (c .make-room .ensures .0) (c .make-room .ensures .1) (c .make-room .ensures .2) (c .make-room .ensures .3)
-    (c .make-room .ensures .4) (λ e. never-true (sym e ∙ not-true _ (then1 .if1 .taken)))
+    let ended : tie.Then1 = search in
+    ready-before (start .pre) (c .make-room .ensures) (λ e. never-true (sym e ∙ not-true _ (ended .if1 .taken)))
 
 sub-shows-record : tie.Need-sub-shows-record
 sub-shows-record c = search needs
@@ -41,13 +38,7 @@ same-length c = search needs
 
 returns-2 : tie.Need-returns-2
 unfolding windowOf
-returns-2 c =
-    let start : tie.Start = search in
-    let after-shows-record : tie.After-shows-record = search in
-    let then2 : tie.Then2 = search in
-    ready-before (start .args .s) (c .make-room2 .result) (now (start .args .input)) (now (start .args .out)) (start .pre)
-    (c .make-room2 .ensures .0) (c .make-room2 .ensures .1) (c .make-room2 .ensures .2) (c .make-room2 .ensures .3)
-    (c .make-room2 .ensures .4) (λ e. sym (after-shows-record .shows-record .ensures) ∙ then2 .if2 .taken)
+returns-2 c = let start : tie.Start = search in ready-before (start .pre) (c .make-room2 .ensures) (λ e. cc)
 
 flush-requires : tie.Need-flush-requires
 flush-requires c κs = search needs
@@ -61,10 +52,9 @@ same-length-2 c = search needs
 returns-3 : tie.Need-returns-3
 returns-3 c =
     let start : tie.Start = search in
-    let after-flush : tie.After-flush = search in
-    let after-fill : tie.After-fill = search in
-    ready-filled (start .args .s) (after-flush .flush .result) (after-fill .fill .result) (now (start .args .input))
-    (now (start .args .out)) (after-fill .fill .last .1 .0) (start .pre .room) (after-flush .flush .ensures) (after-fill .fill .ensures)
+    let flushed : tie.After-flush = search in
+    let read : tie.After-fill = search in
+    ready-filled (start .pre .room) (flushed .flush .ensures) (read .fill .ensures)
 
 pub ready-spec : {M : Type 1} → statement M
 ready-spec =

@@ -1,59 +1,42 @@
 -- `linkcheck::run` meets its contract: the places stay within their buffers, and the records that are left to answer fall.
 -- Assumes nothing.
-use mathlib.Core.Bool.{false, cond}
-use mathlib.Core.Path.{_≡_, refl, sym, _∙_}
-use Prim.Native.Nat.{_-_, _<_}
+use mathlib.Core.Bool.{cond}
+use mathlib.Core.Path.{sym}
+use Prim.Native.Nat.{_-_}
 use native.Mathlib.Omega.{arith}
-use borrow.Author.Tests.{not-true}
 use borrow.Author.Needs.{needs}
 use lib.Seq.{length-take-le}
-use lib.ListN.{length}
-use Rattle.linkcheck.specs.Turns.{Places}
-use Rattle.linkcheck.proofs.Laws.{written-within, answered-places, turn-falls, turn-few}
+use Rattle.linkcheck.proofs.Laws.{Running, turn-falls, running-more, written-within}
 use Rattle.linkcheck.proofs.run.Statement.{statement}
 use Rattle.linkcheck.proofs.run.Tie as tie
 
 abbrev Inv-loop : tie.InvT-loop
-Inv-loop input₀ out₀ first₀ second₀ work₀ s₀ ended₀ input out first second work s ended =
-    (length input ≡ length input₀) × (length out ≡ length out₀) × (length first ≡ length first₀) × (length second ≡ length second₀)
-    × (length work ≡ length work₀) × Places s input out × (ended ≡ false → s .done < 65535)
+Inv-loop input₀ out₀ first₀ second₀ work₀ s₀ ended₀ input out first second work s ended = Running s ended input out first second work
 
 abbrev μ-loop : tie.MeasureT-loop
 μ-loop input₀ out₀ first₀ second₀ work₀ s₀ ended₀ input out first second work s ended = cond ended 0 (65535 - s .done)
 
 -- The places of the code that the answers name.
-abbrev Start : Type 0
-Start = tie.Start Inv-loop μ-loop
-
 abbrev Turn : Type 0
 Turn = tie.At-loop Inv-loop μ-loop
 
-abbrev In-loop : Type 0
-In-loop = tie.In-loop Inv-loop μ-loop
+abbrev Test : Type 0
+Test = tie.In-loop Inv-loop μ-loop
 
-abbrev After-ready : Type 0
-After-ready = tie.After-ready Inv-loop μ-loop
+abbrev Made-ready : Type 0
+Made-ready = tie.After-ready Inv-loop μ-loop
 
-abbrev After-put-end : Type 0
-After-put-end = tie.After-put-end Inv-loop μ-loop
+abbrev Made-answer : Type 0
+Made-answer = tie.After-answer Inv-loop μ-loop
 
-abbrev After-answer : Type 0
-After-answer = tie.After-answer Inv-loop μ-loop
+abbrev Ended : Type 0
+Ended = tie.After-put-end Inv-loop μ-loop
 
 loop-holds : tie.Need-loop-holds Inv-loop μ-loop
-loop-holds c =
-    let start : Start = search in (
-      refl,
-      refl,
-      refl,
-      refl,
-      refl,
-      record { in-order = omega arith; in-input = omega arith; in-output = omega arith; room = omega (arith, start .pre .1) },
-      λ e. omega arith,
-    )
+loop-holds c = search needs
 
 ready-requires : tie.Need-ready-requires Inv-loop μ-loop
-ready-requires c κs = let turn : Turn = search in turn .loop .inv .5
+ready-requires c κs = search needs
 
 same-length : tie.Need-same-length Inv-loop μ-loop
 same-length c = search needs
@@ -75,61 +58,29 @@ returns c = tt
 
 answer-requires : tie.Need-answer-requires Inv-loop μ-loop
 answer-requires c κs =
-    let start : Start = search in
     let turn : Turn = search in
-    let in-loop : In-loop = search in
-    let after-ready : After-ready = search in
-    let r = after-ready .ready in
-    let h = turn .loop in
-    record {
-      in-order = r .ensures .window .in-order;
-      in-input = omega (arith, r .ensures .window .in-input, r .kept .1 .0);
-      step-room = record {
-        few = omega (arith, r .ensures .window .done-is, h .inv .6 (not-true (h .ended) (in-loop .loop-test .taken)));
-        line-fits = r .ensures .line-fits;
-        room = record {
-          first-long = omega (arith, start .pre .2, h .inv .2);
-          second-long = omega (arith, start .pre .3, h .inv .3);
-          work-long = omega (arith, start .pre .4, h .inv .4);
-        };
-      };
-    }
+    let test : Test = search in
+    let few = turn .loop .inv .few (test .loop-test .taken) in
+    search needs
 
 loop-less : tie.Need-loop-less Inv-loop μ-loop
 loop-less c =
-    let after-answer : After-answer = search in
-    let after-ready : After-ready = search in
-    let in-loop : In-loop = search in
+    let answered : Made-answer = search in
+    let ready : Made-ready = search in
+    let test : Test = search in
     let turn : Turn = search in
-    let r = after-ready .ready in
-    let h = turn .loop in
-    let t = after-answer .answer in
-    rw (not-true (h .ended) (in-loop .loop-test .taken))
-    (rw (r .ensures .window .done-is) at
-    (turn-falls _ (r .result .done) (t .result .done) (t .result .ended) (t .ensures .done-is) (t .ensures .ends)
-    (omega (arith, r .ensures .window .done-is, h .inv .6 (not-true (h .ended) (in-loop .loop-test .taken))))))
+    turn-falls (turn .loop .inv) (test .loop-test .taken) (ready .ready .ensures) (answered .answer .ensures)
 
 loop-again : tie.Need-loop-again Inv-loop μ-loop
 loop-again c =
+    let answered : Made-answer = search in
+    let ready : Made-ready = search in
+    let test : Test = search in
     let turn : Turn = search in
-    let after-ready : After-ready = search in
-    let after-answer : After-answer = search in
-    let r = after-ready .ready in
-    let h = turn .loop in
-    let t = after-answer .answer in (
-      r .kept .1 .0 ∙ h .inv .0,
-      t .kept .1 .1 .0 ∙ h .inv .1,
-      t .kept .1 .1 .1 .0 ∙ h .inv .2,
-      t .kept .1 .1 .1 .1 .0 ∙ h .inv .3,
-      t .kept .1 .1 .1 .1 .1 .0 ∙ h .inv .4,
-      answered-places (r .result) (t .result) (r .last .1 .0) (h .out) (t .last .1 .1 .0) (r .ensures .window .in-order)
-          (omega (arith, r .ensures .window .in-input, r .kept .1 .0)) (omega (arith, r .ensures .line-fits)) (h .inv .5 .room)
-          (t .kept .1 .1 .0) (t .ensures),
-      λ e. turn-few _ (r .result .done) (t .result .done) (t .result .ended) (t .ensures .done-is) (t .ensures .ends) e,
-    )
+    running-more (turn .loop .inv) (test .loop-test .taken) (ready .ready .ensures) (answered .answer .ensures) (search needs)
 
 flush-requires : tie.Need-flush-requires Inv-loop μ-loop
-flush-requires c κs = let turn : Turn = search in turn .loop .inv .5 .in-output
+flush-requires c κs = search needs
 
 same-length-6 : tie.Need-same-length-6 Inv-loop μ-loop
 same-length-6 c = search needs
@@ -150,19 +101,15 @@ returns-2 : tie.Need-returns-2 Inv-loop μ-loop
 returns-2 c = tt
 
 put-end-requires : tie.Need-put-end-requires Inv-loop μ-loop
-put-end-requires c κs =
-    let turn : Turn = search in
-    omega (arith, turn .loop .inv .5 .room)
+put-end-requires c κs = search needs
 
 slice-reshare-prefix-write-all : tie.Need-slice-reshare-prefix-write-all Inv-loop μ-loop
-slice-reshare-prefix-write-all c =
-    let after-put-end : After-put-end = search in
-    written-within _ _ _ 0 (after-put-end .put-end .result) (omega arith) (after-put-end .put-end .ensures)
+slice-reshare-prefix-write-all c = let put : Ended = search in written-within (put .put-end .ensures) (omega arith)
 
 slice-aggregate-write-all : tie.Need-slice-aggregate-write-all Inv-loop μ-loop
 slice-aggregate-write-all c =
-    let after-put-end : After-put-end = search in
-    sym (length-take-le _ _ (written-within _ _ _ 0 (after-put-end .put-end .result) (omega arith) (after-put-end .put-end .ensures)))
+    let put : Ended = search in
+    sym (length-take-le _ _ (written-within (put .put-end .ensures) (omega arith)))
 
 write-all-requires : tie.Need-write-all-requires Inv-loop μ-loop
 write-all-requires c κs = tt

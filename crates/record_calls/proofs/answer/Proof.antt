@@ -1,7 +1,6 @@
 -- `record_calls::answer` meets its contract: each branch is the kind's call.
 -- Assumes nothing.
 use borrow.Author.Needs.{needs}
-use denote.Ref.{now}
 use Rattle.record_calls.proofs.ByKind.{kind-1, kind-2, kind-3, kind-4, kind-5}
 use Rattle.record_calls.proofs.answer.Statement.{statement}
 use Rattle.record_calls.proofs.answer.Tie as tie
@@ -19,11 +18,7 @@ same-length-3 : tie.Need-same-length-3
 same-length-3 c = search needs
 
 returns : tie.Need-returns
-returns c =
-    let start : tie.Start = search in
-    let then1 : tie.Then1 = search in
-    let after-make-keys : tie.After-make-keys = search in
-    rw (kind-1 (start .args .kind) (start .args .set) (now (start .args .body)) (then1 .if1 .taken)) (after-make-keys .make-keys .ensures)
+returns c = search kind-1
 
 encrypt-message-requires : tie.Need-encrypt-message-requires
 encrypt-message-requires c κs = search needs
@@ -38,13 +33,7 @@ same-length-6 : tie.Need-same-length-6
 same-length-6 c = search needs
 
 returns-2 : tie.Need-returns-2
-returns-2 c =
-    let start : tie.Start = search in
-    let else1 : tie.Else1 = search in
-    let then2 : tie.Then2 = search in
-    let after-encrypt-message : tie.After-encrypt-message = search in
-    rw (kind-2 (start .args .kind) (start .args .set) (now (start .args .body)) (else1 .if1 .left) (then2 .if2 .taken))
-    (after-encrypt-message .encrypt-message .ensures)
+returns-2 c = search kind-2
 
 decrypt-message-requires : tie.Need-decrypt-message-requires
 decrypt-message-requires c κs = search needs
@@ -59,14 +48,7 @@ same-length-9 : tie.Need-same-length-9
 same-length-9 c = search needs
 
 returns-3 : tie.Need-returns-3
-returns-3 c =
-    let start : tie.Start = search in
-    let else1 : tie.Else1 = search in
-    let else2 : tie.Else2 = search in
-    let then3 : tie.Then3 = search in
-    let after-decrypt-message : tie.After-decrypt-message = search in
-    rw (kind-3 (start .args .kind) (start .args .set) (now (start .args .body)) (else1 .if1 .left) (else2 .if2 .left) (then3 .if3 .taken))
-    (after-decrypt-message .decrypt-message .ensures)
+returns-3 c = search kind-3
 
 encapsulate-requires : tie.Need-encapsulate-requires
 encapsulate-requires c κs = search needs
@@ -81,27 +63,7 @@ same-length-12 : tie.Need-same-length-12
 same-length-12 c = search needs
 
 returns-4 : tie.Need-returns-4
-returns-4 c =
-    rw (kind-4 (start .args .kind) (start .args .set) (now (start .args .body)) (else1 .if1 .left) (else2 .if2 .left) (else3 .if3 .left)
-    (then4 .if4 .taken)) (after-encapsulate .encapsulate .ensures)
-  where
-    start : tie.Start
-    start = search
-
-    else1 : tie.Else1
-    else1 = search
-
-    else2 : tie.Else2
-    else2 = search
-
-    else3 : tie.Else3
-    else3 = search
-
-    then4 : tie.Then4
-    then4 = search
-
-    after-encapsulate : tie.After-encapsulate
-    after-encapsulate = search
+returns-4 c = search kind-4
 
 decapsulate-requires : tie.Need-decapsulate-requires
 decapsulate-requires c κs = search needs
@@ -116,15 +78,7 @@ same-length-15 : tie.Need-same-length-15
 same-length-15 c = search needs
 
 returns-5 : tie.Need-returns-5
-returns-5 c =
-    let start : tie.Start = search in
-    let else1 : tie.Else1 = search in
-    let else2 : tie.Else2 = search in
-    let else3 : tie.Else3 = search in
-    let else4 : tie.Else4 = search in
-    let after-decapsulate : tie.After-decapsulate = search in
-    rw (kind-5 (start .args .kind) (start .args .set) (now (start .args .body)) (else1 .if1 .left) (else2 .if2 .left) (else3 .if3 .left)
-    (else4 .if4 .left)) (after-decapsulate .decapsulate .ensures)
+returns-5 c = search kind-5
 
 pub answer-spec : {M : Type 1} → statement M
 answer-spec =

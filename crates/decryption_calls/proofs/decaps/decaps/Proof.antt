@@ -1,12 +1,10 @@
 -- `decryption_calls::decaps::decaps` meets its contract: the status by lengths, then the inner function, give the answer (`Exits`).
 -- Assumes nothing.
 use mathlib.Core.Path.{_≡_, sym}
-use native.Mathlib.Omega.{arith}
 use borrow.Author.Needs.{needs}
 use denote.Ref.{now}
 use lib.ListN.{length, take}
-use lib.Seq.{length-take-le}
-use Rattle.decryption_calls.proofs.Exits.{coins-fit, decaps-refused, decaps-fits, decaps-exit}
+use Rattle.decryption_calls.proofs.Exits.{decaps-refused, decaps-fits, decaps-exit, coins-room}
 use Rattle.decryption_calls.proofs.decaps.decaps.Statement.{statement}
 use Rattle.decryption_calls.proofs.decaps.decaps.Tie as tie
 
@@ -46,29 +44,23 @@ array-borrow-prefix-found c = search needs
 
 -- The rooms for the coins and the digest are as long as coins.
 long : (c : tie.After-zeros) →
-    let after-parameters : tie.After-parameters = search in
-    length (take (after-parameters .parameters .result .coins) (c .zeros .result)) ≡ after-parameters .parameters .result .coins
-long c =
-    let after-parameters : tie.After-parameters = search in
-    let zeros : length (c .zeros .result) ≡ 64 = search needs in
-    length-take-le _ _ (omega (arith, coins-fit _ (after-parameters .parameters .ensures .well)))
+    let known : tie.After-parameters = search in
+    length (take (known .parameters .result .coins) (c .zeros .result)) ≡ known .parameters .result .coins
+long c = let known : tie.After-parameters = search in coins-room _ (c .zeros .result) (known .parameters .ensures .well) (search needs)
 
 long-2 : (c : tie.After-zeros2) →
-    let after-parameters : tie.After-parameters = search in
-    length (take (after-parameters .parameters .result .coins) (c .zeros2 .result)) ≡ after-parameters .parameters .result .coins
-long-2 c =
-    let after-parameters : tie.After-parameters = search in
-    let zeros : length (c .zeros2 .result) ≡ 64 = search needs in
-    length-take-le _ _ (omega (arith, coins-fit _ (after-parameters .parameters .ensures .well)))
+    let known : tie.After-parameters = search in
+    length (take (known .parameters .result .coins) (c .zeros2 .result)) ≡ known .parameters .result .coins
+long-2 c = let known : tie.After-parameters = search in coins-room _ (c .zeros2 .result) (known .parameters .ensures .well) (search needs)
 
 slice-aggregate-open-key : tie.Need-slice-aggregate-open-key
-slice-aggregate-open-key c = sym (long (search))
+slice-aggregate-open-key c = sym (long search)
 
 array-borrow-prefix-d : tie.Need-array-borrow-prefix-d
 array-borrow-prefix-d c = search needs
 
 slice-aggregate-open-key-2 : tie.Need-slice-aggregate-open-key-2
-slice-aggregate-open-key-2 c = sym (long-2 (search))
+slice-aggregate-open-key-2 c = sym (long-2 search)
 
 open-key-requires : tie.Need-open-key-requires
 open-key-requires c κs =

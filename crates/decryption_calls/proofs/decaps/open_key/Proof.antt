@@ -7,30 +7,18 @@ use denote.Ref.{now}
 use lib.ListN.{length}
 use Rattle.vectors.proofs.Amounts.{part-length}
 use Rattle.vectors.proofs.Joining.{same-long}
-use Rattle.decryption_calls.proofs.Fitted.{key-refused, key-answered}
+use Rattle.decryption_calls.proofs.Fitted.{key-refused, key-answered, KeyChecks}
 use Rattle.decryption_calls.proofs.decaps.open_key.Statement.{statement}
 use Rattle.decryption_calls.proofs.decaps.open_key.Tie as tie
 
 -- From a place back to one that is far before it.
-abbrev start-of-recover-coins : tie.After-recover-coins → tie.Start
-start-of-recover-coins c = search
-
 abbrev start-of-work : tie.After-work → tie.Start
 start-of-work c = search
-
-abbrev recover-coins-of-work : tie.After-work → tie.After-recover-coins
-recover-coins-of-work c = search
 
 abbrev recover-coins-of-open : tie.After-open → tie.After-recover-coins
 recover-coins-of-open c = search
 
-abbrev open-of-digest : tie.After-digest → tie.After-open
-open-of-digest c = search
-
-abbrev work-of-matrix : tie.After-matrix → tie.After-work
-work-of-matrix c = search
-
-ruleset places = (start-of-recover-coins, start-of-work, recover-coins-of-work, recover-coins-of-open, open-of-digest, work-of-matrix)
+ruleset places = (start-of-work, recover-coins-of-open)
 
 recover-coins-requires : tie.Need-recover-coins-requires
 recover-coins-requires c κs = search needs
@@ -134,6 +122,48 @@ refuse-if-requires c κs = search needs
 refuse-if-requires-2 : tie.Need-refuse-if-requires-2
 refuse-if-requires-2 c κs = search needs
 
+-- What is known once the last check is made.
+checks : (c : tie.After-refuse-if2) →
+    let first : tie.After-refuse-if = search in
+    let compared : tie.After-all-zero = search in
+    let added : tie.After-add-padded = search in
+    let placed : tie.After-padded = search in
+    let low : tie.After-low = search in
+    let matrix : tie.After-matrix = search in
+    let hashed : tie.After-digest = search in
+    let opened : tie.After-open = search places in
+    let recovered : tie.After-recover-coins = search places in
+    let start : tie.Start = search places in
+    KeyChecks (start .args .p) (now (start .args .sk)) (now (start .args .ct)) (recovered .recover-coins .last .1 .1 .1 .0)
+    (opened .«open» .last .1 .1 .1 .1 .0) (opened .«open» .result) (matrix .matrix .result) (low .low .result) (placed .padded .result)
+    (hashed .digest .last .1 .1 .0) (added .add-padded .last .1 .0) (compared .all-zero .result) (first .refuse-if .result) (c .refuse-if2 .result)
+checks c =
+    let first : tie.After-refuse-if = search in
+    let compared : tie.After-all-zero = search in
+    let added : tie.After-add-padded = search in
+    let placed : tie.After-padded = search in
+    let low : tie.After-low = search in
+    let matrix : tie.After-matrix = search in
+    let hashed : tie.After-digest = search in
+    let opened : tie.After-open = search places in
+    let recovered : tie.After-recover-coins = search places in
+    let start : tie.Start = search places in
+    record {
+      opening = record {
+        well = start .pre .room .well;
+        coins-are = recovered .recover-coins .ensures;
+        exit = opened .«open» .ensures;
+        matrix-is = matrix .matrix .ensures .0;
+        low-is = low .low .ensures .0;
+        padded-is = placed .padded .ensures .0;
+      };
+      digest-is = hashed .digest .ensures;
+      added-is = added .add-padded .ensures;
+      equal-is = compared .all-zero .ensures;
+      differs-is = first .refuse-if .ensures;
+      status-is = c .refuse-if2 .ensures;
+    }
+
 same-length : tie.Need-same-length
 same-length c = search needs
 
@@ -144,24 +174,7 @@ same-length-3 : tie.Need-same-length-3
 same-length-3 c = search needs
 
 returns : tie.Need-returns
-returns c =
-    let checked : tie.After-refuse-if2 = search in
-    let after-refuse-if : tie.After-refuse-if = search in
-    let compared : tie.After-all-zero = search in
-    let added : tie.After-add-padded = search in
-    let placed : tie.After-padded = search in
-    let after-low : tie.After-low = search in
-    let after-matrix : tie.After-matrix = search in
-    let hashed : tie.After-digest = search in
-    let opened : tie.After-open = search in
-    let recovered : tie.After-recover-coins = search places in
-    let start : tie.Start = search places in
-    let a = start .args in
-    key-refused (a .p) (start .pre .room .well) (now (a .sk)) (now (a .ct)) _ _ _ _ _ _ (recovered .recover-coins .ensures)
-    (opened .«open» .ensures)
-    (after-matrix .matrix .ensures .0) (after-low .low .ensures .0) (placed .padded .ensures .0)
-    _ _ (hashed .digest .ensures) (added .add-padded .ensures) (compared .all-zero .ensures) (after-refuse-if .refuse-if .ensures)
-    (checked .refuse-if2 .ensures) _ (c .if1 .taken)
+returns c = key-refused (checks search) _ (c .if1 .taken)
 
 shared-key-requires : tie.Need-shared-key-requires
 shared-key-requires c κs =
@@ -185,25 +198,9 @@ same-length-7 c = search needs
 
 returns-2 : tie.Need-returns-2
 returns-2 c =
-    let keyed : tie.After-shared-key = search in
     let passed : tie.Else1 = search in
-    let checked : tie.After-refuse-if2 = search in
-    let after-refuse-if : tie.After-refuse-if = search in
-    let compared : tie.After-all-zero = search in
-    let added : tie.After-add-padded = search in
-    let placed : tie.After-padded = search in
-    let after-low : tie.After-low = search in
-    let after-matrix : tie.After-matrix = search in
-    let hashed : tie.After-digest = search in
-    let opened : tie.After-open = search places in
-    let recovered : tie.After-recover-coins = search places in
-    let start : tie.Start = search places in
-    let a = start .args in
-    key-answered (a .p) (start .pre .room .well) (now (a .sk)) (now (a .ct)) _ _ _ _ _ _ (recovered .recover-coins .ensures)
-    (opened .«open» .ensures)
-    (after-matrix .matrix .ensures .0) (after-low .low .ensures .0) (placed .padded .ensures .0)
-    _ _ (hashed .digest .ensures) (added .add-padded .ensures) (compared .all-zero .ensures) (after-refuse-if .refuse-if .ensures)
-    (checked .refuse-if2 .ensures) _ (passed .if1 .left) (keyed .shared-key .ensures)
+    let keyed : tie.After-shared-key = search in
+    key-answered (checks search) _ (passed .if1 .left) (keyed .shared-key .ensures)
 
 pub open-key-spec : {M : Type 1} → statement M
 open-key-spec =

@@ -1,12 +1,10 @@
 -- `decryption_calls::decrypt::decrypt` meets its contract: the status by lengths, then the inner function, give the answer (`Exits`).
 -- Assumes nothing.
 use mathlib.Core.Path.{_≡_, sym}
-use native.Mathlib.Omega.{arith}
 use borrow.Author.Needs.{needs}
 use denote.Ref.{now}
 use lib.ListN.{length, take}
-use lib.Seq.{length-take-le}
-use Rattle.decryption_calls.proofs.Exits.{coins-fit, decrypt-refused, decrypt-fits, decrypt-exit}
+use Rattle.decryption_calls.proofs.Exits.{decrypt-refused, decrypt-fits, decrypt-exit, coins-room}
 use Rattle.decryption_calls.proofs.decrypt.decrypt.Statement.{statement}
 use Rattle.decryption_calls.proofs.decrypt.decrypt.Tie as tie
 
@@ -43,15 +41,12 @@ array-borrow-prefix-found c = search needs
 
 -- The room for the coins is as long as coins.
 long : (c : tie.After-zeros) →
-    let after-parameters : tie.After-parameters = search in
-    length (take (after-parameters .parameters .result .coins) (c .zeros .result)) ≡ after-parameters .parameters .result .coins
-long c =
-    let after-parameters : tie.After-parameters = search in
-    let zeros : length (c .zeros .result) ≡ 64 = search needs in
-    length-take-le _ _ (omega (arith, coins-fit _ (after-parameters .parameters .ensures .well)))
+    let known : tie.After-parameters = search in
+    length (take (known .parameters .result .coins) (c .zeros .result)) ≡ known .parameters .result .coins
+long c = let known : tie.After-parameters = search in coins-room _ (c .zeros .result) (known .parameters .ensures .well) (search needs)
 
 slice-aggregate-open-message : tie.Need-slice-aggregate-open-message
-slice-aggregate-open-message c = sym (long (search))
+slice-aggregate-open-message c = sym (long search)
 
 open-message-requires : tie.Need-open-message-requires
 open-message-requires c κs =

@@ -5,24 +5,18 @@ use native.Mathlib.Omega.{arith}
 use borrow.Author.Needs.{needs}
 use denote.Ref.{now}
 use lib.ListN.{length-take, length-drop}
-use Rattle.decryption_calls.proofs.Fitted.{message-refused, message-short, message-answered}
+use Rattle.decryption_calls.proofs.Fitted.{message-refused, message-short, message-answered, MessageChecks}
 use Rattle.decryption_calls.proofs.decrypt.open_message.Statement.{statement}
 use Rattle.decryption_calls.proofs.decrypt.open_message.Tie as tie
 
 -- From a place back to one that is far before it.
-abbrev start-of-recover-coins : tie.After-recover-coins → tie.Start
-start-of-recover-coins c = search
-
 abbrev start-of-work : tie.After-work → tie.Start
 start-of-work c = search
-
-abbrev recover-coins-of-work : tie.After-work → tie.After-recover-coins
-recover-coins-of-work c = search
 
 abbrev recover-coins-of-open : tie.After-open → tie.After-recover-coins
 recover-coins-of-open c = search
 
-ruleset places = (start-of-recover-coins, start-of-work, recover-coins-of-work, recover-coins-of-open)
+ruleset places = (start-of-work, recover-coins-of-open)
 
 recover-coins-requires : tie.Need-recover-coins-requires
 recover-coins-requires c κs = search needs
@@ -63,6 +57,43 @@ refuse-if-requires c κs = search needs
 refuse-if-requires-2 : tie.Need-refuse-if-requires-2
 refuse-if-requires-2 c κs = search needs
 
+-- What is known once the last check is made.
+checks : (c : tie.After-refuse-if2) →
+    let first : tie.After-refuse-if = search in
+    let ended : tie.After-ending = search in
+    let placed : tie.After-padded = search in
+    let low : tie.After-low = search in
+    let matrix : tie.After-matrix = search in
+    let opened : tie.After-open = search in
+    let recovered : tie.After-recover-coins = search places in
+    let start : tie.Start = search places in
+    MessageChecks (start .args .p) (now (start .args .sk)) (now (start .args .ct)) (recovered .recover-coins .last .1 .1 .1 .0)
+    (opened .«open» .last .1 .1 .1 .1 .0) (opened .«open» .result) (matrix .matrix .result) (low .low .result) (placed .padded .result)
+    (ended .ending .result .mark) (ended .ending .result .len) (first .refuse-if .result) (c .refuse-if2 .result)
+checks c =
+    let first : tie.After-refuse-if = search in
+    let ended : tie.After-ending = search in
+    let placed : tie.After-padded = search in
+    let low : tie.After-low = search in
+    let matrix : tie.After-matrix = search in
+    let opened : tie.After-open = search in
+    let recovered : tie.After-recover-coins = search places in
+    let start : tie.Start = search places in
+    record {
+      opening = record {
+        well = start .pre .room .well;
+        coins-are = recovered .recover-coins .ensures;
+        exit = opened .«open» .ensures;
+        matrix-is = matrix .matrix .ensures .0;
+        low-is = low .low .ensures .0;
+        padded-is = placed .padded .ensures .0;
+      };
+      ends = ended .ending .ensures .0;
+      within = ended .ending .ensures .1;
+      unmarked-is = first .refuse-if .ensures;
+      status-is = c .refuse-if2 .ensures;
+    }
+
 same-length : tie.Need-same-length
 same-length c = search needs
 
@@ -70,39 +101,7 @@ same-length-2 : tie.Need-same-length-2
 same-length-2 c = search needs
 
 returns : tie.Need-returns
-returns c =
-    let a = start .args in
-    message-refused (a .p) (start .pre .room .well) (now (a .sk)) (now (a .ct)) _ _ _ _ _ _ (recovered .recover-coins .ensures)
-    (opened .«open» .ensures)
-    (after-matrix .matrix .ensures .0) (after-low .low .ensures .0) (placed .padded .ensures .0)
-    _ _ (ended .ending .ensures .0) (after-refuse-if .refuse-if .ensures) (checked .refuse-if2 .ensures) _ _ (c .if1 .taken)
-  where
-    start : tie.Start
-    start = search places
-
-    recovered : tie.After-recover-coins
-    recovered = search
-
-    opened : tie.After-open
-    opened = search
-
-    after-matrix : tie.After-matrix
-    after-matrix = search
-
-    after-low : tie.After-low
-    after-low = search
-
-    placed : tie.After-padded
-    placed = search
-
-    ended : tie.After-ending
-    ended = search
-
-    after-refuse-if : tie.After-refuse-if
-    after-refuse-if = search
-
-    checked : tie.After-refuse-if2
-    checked = search
+returns c = message-refused (checks search) _ _ (c .if1 .taken)
 
 copy-requires : tie.Need-copy-requires
 copy-requires c κs =
@@ -141,46 +140,10 @@ part-write-message-end c =
 
 write-message-requires : tie.Need-write-message-requires
 write-message-requires c κs =
-    let a = start .args in
-    let pre = start .pre in
-    let short =
-    message-short (a .p) (pre .room .well) (now (a .sk)) (now (a .ct)) _ _ _ _ _ _ (recovered .recover-coins .ensures)
-    (opened .«open» .ensures)
-    (after-matrix .matrix .ensures .0) (after-low .low .ensures .0) (placed .padded .ensures .0)
-    _ _ (ended .ending .ensures .0) (after-refuse-if .refuse-if .ensures) (checked .refuse-if2 .ensures)
-    (ended .ending .ensures .1) (passed .if1 .left)
-    in
-    simp (length-take, length-drop) (omega (arith, pre .message-long))
-  where
-    start : tie.Start
-    start = search places
-
-    recovered : tie.After-recover-coins
-    recovered = search places
-
-    opened : tie.After-open
-    opened = search
-
-    after-matrix : tie.After-matrix
-    after-matrix = search
-
-    after-low : tie.After-low
-    after-low = search
-
-    placed : tie.After-padded
-    placed = search
-
-    ended : tie.After-ending
-    ended = search
-
-    after-refuse-if : tie.After-refuse-if
-    after-refuse-if = search
-
-    checked : tie.After-refuse-if2
-    checked = search
-
-    passed : tie.Else1
-    passed = search
+    let start : tie.Start = search places in
+    let passed : tie.Else1 = search in
+    let short = message-short (checks search) (passed .if1 .left) in
+    simp (length-take, length-drop) (omega (arith, start .pre .message-long))
 
 same-length-3 : tie.Need-same-length-3
 same-length-3 c = search needs
@@ -196,24 +159,10 @@ same-length-6 c = search needs
 
 returns-2 : tie.Need-returns-2
 returns-2 c =
-    let written : tie.After-write-message = search in
-    let copied : tie.After-copy = search in
     let passed : tie.Else1 = search in
-    let checked : tie.After-refuse-if2 = search in
-    let after-refuse-if : tie.After-refuse-if = search in
-    let ended : tie.After-ending = search in
-    let placed : tie.After-padded = search in
-    let after-low : tie.After-low = search in
-    let after-matrix : tie.After-matrix = search in
-    let opened : tie.After-open = search in
-    let recovered : tie.After-recover-coins = search places in
-    let start : tie.Start = search places in
-    let a = start .args in
-    message-answered (a .p) (start .pre .room .well) (now (a .sk)) (now (a .ct)) _ _ _ _ _ _ (recovered .recover-coins .ensures)
-    (opened .«open» .ensures)
-    (after-matrix .matrix .ensures .0) (after-low .low .ensures .0) (placed .padded .ensures .0)
-    _ _ (ended .ending .ensures .0) (after-refuse-if .refuse-if .ensures) (checked .refuse-if2 .ensures) _ _
-    (ended .ending .ensures .1) (passed .if1 .left) (copied .copy .ensures) (written .write-message .ensures)
+    let copied : tie.After-copy = search in
+    let written : tie.After-write-message = search in
+    message-answered (checks search) _ _ (passed .if1 .left) (copied .copy .ensures) (written .write-message .ensures)
 
 pub open-message-spec : {M : Type 1} → statement M
 open-message-spec =

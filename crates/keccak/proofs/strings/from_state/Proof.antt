@@ -52,7 +52,7 @@ array-copy-out-store-row : tie.Need-array-copy-out-store-row Inv-loop μ-loop
 array-copy-out-store-row c = omega arith
 
 store-row-requires : tie.Need-store-row-requires Inv-loop μ-loop
-store-row-requires c κs = simp (length-take, length-drop) (omega arith)
+store-row-requires c κs = search needs
 
 add-y : tie.Need-add-y Inv-loop μ-loop
 add-y c = omega arith

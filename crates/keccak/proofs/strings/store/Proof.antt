@@ -58,7 +58,7 @@ slice-write-dst-8 : tie.Need-slice-write-dst-8
 slice-write-dst-8 c = simp length-set (omega arith)
 
 same-length : tie.Need-same-length
-same-length c = simp length-set
+same-length c = search needs
 
 returns : tie.Need-returns
 returns c =

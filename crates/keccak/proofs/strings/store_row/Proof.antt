@@ -4,7 +4,7 @@ use Prim.Native.Nat.{_-_}
 use mathlib.Core.Path.{ap, _∙_}
 use native.Mathlib.Omega.{arith}
 use borrow.Author.Needs.{needs}
-use lib.ListN.{length, length-take, length-drop}
+use lib.ListN.{length}
 use Rattle.keccak.proofs.Parts.{length-digits, PartsWritten, parts-begun, parts-more, parts-all}
 use Rattle.keccak.proofs.strings.store_row.Statement.{statement}
 use Rattle.keccak.specs.Lists.{digits}
@@ -52,7 +52,7 @@ array-read-store : tie.Need-array-read-store Inv-loop μ-loop
 array-read-store c = omega arith
 
 store-requires : tie.Need-store-requires Inv-loop μ-loop
-store-requires c κs = simp (length-take, length-drop) (omega arith)
+store-requires c κs = search needs
 
 add-x : tie.Need-add-x Inv-loop μ-loop
 add-x c = omega arith

@@ -1,14 +1,13 @@
 -- `noise_calls::choose::choose` meets its contract: the status by lengths, then the inner function, give the answer (`Exits`).
 -- Assumes nothing.
-use mathlib.Core.Path.{_≡_, sym, _∙_}
+use mathlib.Core.Path.{sym, _∙_}
 use Prim.Native.Nat.{_≤_}
-use native.Mathlib.Omega.{arith}
 use borrow.Author.Needs.{needs}
 use denote.Ref.{now}
 use lib.ListN.{length}
 use lib.Seq.{length-take-le}
-use Rattle.noise_calls.proofs.Places.{value-fits}
 use Rattle.noise_calls.proofs.Exits.{choose-refused, choose-fits, choose-exit}
+use Rattle.noise_calls.proofs.Places.{value-room}
 use Rattle.noise_calls.proofs.choose.choose.Statement.{statement}
 use Rattle.noise_calls.proofs.choose.choose.Tie as tie
 
@@ -45,19 +44,18 @@ length-of-requires c κs = search needs
 
 -- The room for b is long enough.
 fits : (c : tie.After-length-of) →
-    let after-zeros : tie.After-zeros = search in
-    c .length-of .result ≤ length (after-zeros .zeros .result)
+    let zeros : tie.After-zeros = search in
+    c .length-of .result ≤ length (zeros .zeros .result)
 fits c =
-    let after-parameters : tie.After-parameters = search in
-    let after-zeros : tie.After-zeros = search in
-    let zeros : length (after-zeros .zeros .result) ≡ 3072 = search needs in
-    omega (arith, c .length-of .ensures .0, value-fits _ (after-parameters .parameters .ensures .well))
+    let known : tie.After-parameters = search in
+    let zeros : tie.After-zeros = search in
+    value-room _ (zeros .zeros .result) (known .parameters .ensures .well) (c .length-of .ensures .0) (search needs)
 
 array-borrow-prefix-b : tie.Need-array-borrow-prefix-b
 array-borrow-prefix-b c = fits c
 
 slice-aggregate-choose-fitting : tie.Need-slice-aggregate-choose-fitting
-slice-aggregate-choose-fitting c = sym (length-take-le _ _ (fits (search)))
+slice-aggregate-choose-fitting c = sym (length-take-le _ _ (fits search))
 
 choose-fitting-requires : tie.Need-choose-fitting-requires
 choose-fitting-requires c κs =

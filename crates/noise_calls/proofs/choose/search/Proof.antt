@@ -2,27 +2,35 @@
 -- the stream of γ is still there.
 -- Assumes nothing.
 use mathlib.Core.Path.{_≡_, refl, _∙_}
-use Prim.Native.Nat.{_+_, _-_, _≤_}
+use Prim.Native.Nat.{_+_, _-_, _≤_, ℕ}
 use native.Mathlib.Omega.{arith}
 use borrow.Author.Needs.{needs}
 use denote.Ref.{now}
 use lib.ListN.{length}
 use Rattle.noise.specs.Rooms.{Kept}
 use Rattle.noise_calls.proofs.Places.{Searching, search-starts, search-goes-on, search-ends, search-count, coins-there, search-room}
+use mathlib.Core.Bool.{Bool}
+use mathlib.Core.List.{List}
+use Rattle.kindi.specs.declared.Params.{Params}
+use Rattle.noise_calls.specs.Fitting.{SearchRoom}
 use Rattle.noise_calls.proofs.choose.search.Statement.{statement}
 use Rattle.noise_calls.proofs.choose.search.Tie as tie
 
+-- The arguments are as they were asked, the work area keeps its length and the stream of γ, and i coins are tried.
+record Turns (p : Params) (sk b message list work₀ work : List ℕ) (at i : ℕ) (found : Bool) (place : ℕ) : Type 0 where
+  room : SearchRoom p sk b message list work₀
+  long : length work ≡ length work₀
+  kept : Kept p sk work
+  so-far : Searching p sk message list at i found place
+
 abbrev Inv-loop : tie.InvT-loop
 Inv-loop p sk b message list work₀ coins count found₀ place₀ at₀ i₀ work found place at i =
-    (length work ≡ length work₀) × Kept p sk work × Searching p sk message list at i found place
+    Turns p sk b message list work₀ work at i found place
 
 abbrev μ-loop : tie.MeasureT-loop
 μ-loop p sk b message list work₀ coins count found₀ place₀ at₀ i₀ work found place at i = count - i
 
 -- The places of the code that the answers name.
-abbrev Start : Type 0
-Start = tie.Start Inv-loop μ-loop
-
 abbrev Turn : Type 0
 Turn = tie.At-loop Inv-loop μ-loop
 
@@ -31,28 +39,24 @@ In-loop = tie.In-loop Inv-loop μ-loop
 
 div-count : tie.Need-div-count Inv-loop μ-loop
 div-count c =
-    let start : Start = search in
+    let start : tie.Start Inv-loop μ-loop = search in
     let well = start .pre .well in
     omega (arith, well .coin-bits, well .some-coefficients)
 
 loop-holds : tie.Need-loop-holds Inv-loop μ-loop
 loop-holds c =
-    let start : Start = search in
-    (refl, start .pre .stream-kept, search-starts _ _ _ _)
+    let start : tie.Start Inv-loop μ-loop = search in
+    record { room = start .pre; long = refl; kept = start .pre .stream-kept; so-far = search-starts _ _ _ _ }
 
 cast-loop : tie.Need-cast-loop Inv-loop μ-loop
-cast-loop c =
-    let start : Start = search in
-    omega (arith, c .loop .inv .2 .within, search-count (start .pre))
+cast-loop c = omega (arith, c .loop .inv .so-far .within, search-count (c .loop .inv .room))
 
 -- The next coins lie within the list.
 there : (c : In-loop) →
-    let start : Start = search in
+    let start : tie.Start Inv-loop μ-loop = search in
     let turn : Turn = search in
     turn .loop .at + start .args .p .coins ≤ length (now (start .args .list))
-there c =
-    let turn : Turn = search in
-    coins-there (turn .loop .inv .2) (c .loop-test .taken)
+there c = let turn : Turn = search in coins-there (turn .loop .inv .so-far) (c .loop-test .taken)
 
 add-measure : tie.Need-add-measure Inv-loop μ-loop
 add-measure c = omega (arith, there c)
@@ -68,45 +72,42 @@ part-measure-end c = omega (arith, there c)
 
 measure-requires : tie.Need-measure-requires Inv-loop μ-loop
 measure-requires c κs =
-    let start : Start = search in
     let turn : Turn = search in
-    let tested : In-loop = search in
-    search-room _ (start .pre) (there tested) (turn .loop .inv .0) (turn .loop .inv .1)
+    search-room _ (turn .loop .inv .room) (there search) (turn .loop .inv .long) (turn .loop .inv .kept)
 
 first-place-requires : tie.Need-first-place-requires Inv-loop μ-loop
 first-place-requires c κs = search needs
 
 add-at : tie.Need-add-at Inv-loop μ-loop
-add-at c = omega (arith, there (search))
+add-at c = omega (arith, there search)
 
 add-i : tie.Need-add-i Inv-loop μ-loop
 add-i c =
-    let start : Start = search in
     let turn : Turn = search in
-    omega (arith, turn .loop .inv .2 .within, search-count (start .pre))
+    omega (arith, turn .loop .inv .so-far .within, search-count (turn .loop .inv .room))
 
 loop-less : tie.Need-loop-less Inv-loop μ-loop
-loop-less c = let in-loop : In-loop = search in omega (arith, in-loop .loop-test .taken)
+loop-less c = let tested : In-loop = search in omega (arith, tested .loop-test .taken)
 
 loop-again : tie.Need-loop-again Inv-loop μ-loop
 loop-again c =
-    let at-loop : Turn = search in
-    let in-loop : In-loop = search in
+    let turn : Turn = search in
+    let tested : In-loop = search in
     let measured : tie.After-measure Inv-loop μ-loop = search in
-    let after-first-place : tie.After-first-place Inv-loop μ-loop = search in
-    let turn = at-loop .loop in (
-      measured .measure .kept .1 .1 .1 .1 .1 .0 ∙ turn .inv .0,
-      measured .measure .ensures .2,
-      search-goes-on (turn .inv .2) (in-loop .loop-test .taken) (measured .measure .ensures .0) (after-first-place .first-place .ensures),
-    )
+    let placed : tie.After-first-place Inv-loop μ-loop = search in
+    let h = turn .loop .inv in
+    record {
+      room = h .room;
+      long = measured .measure .kept .1 .1 .1 .1 .1 .0 ∙ h .long;
+      kept = measured .measure .ensures .2;
+      so-far = search-goes-on (h .so-far) (tested .loop-test .taken) (measured .measure .ensures .0) (placed .first-place .ensures);
+    }
 
 same-length : tie.Need-same-length Inv-loop μ-loop
-same-length c = let turn : Turn = search in turn .loop .inv .0
+same-length c = let turn : Turn = search in turn .loop .inv .long
 
 returns : tie.Need-returns Inv-loop μ-loop
-returns c =
-    let turn : Turn = search in
-    search-ends (turn .loop .inv .2) (c .loop-test .left)
+returns c = let turn : Turn = search in search-ends (turn .loop .inv .so-far) (c .loop-test .left)
 
 pub search-spec : {M : Type 1} → statement M
 search-spec =

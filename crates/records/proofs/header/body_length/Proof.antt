@@ -14,7 +14,7 @@ pair-requires : tie.Need-pair-requires
 pair-requires c κs = search needs
 
 returns : tie.Need-returns
-returns c = c .pair .ensures
+returns c = search needs
 
 pub body-length-spec : {M : Type 1} → statement M
 body-length-spec = tie.close (tie.spec shared-slice-read-pair shared-slice-read-pair-2 pair-requires returns)

@@ -5,10 +5,10 @@ use Rattle.records.proofs.header.is_kind.Statement.{statement}
 use Rattle.records.proofs.header.is_kind.Tie as tie
 
 returns : tie.Need-returns
-returns c = let start : tie.Start = search in rw (le-leb 1 (start .args .kind) (c .if1 .taken))
+returns c = rw (le-leb 1 _ (c .if1 .taken))
 
 returns-2 : tie.Need-returns-2
-returns-2 c = let start : tie.Start = search in rw (lt-leb 1 (start .args .kind) (c .if1 .left))
+returns-2 c = rw (lt-leb 1 _ (c .if1 .left))
 
 pub is-kind-spec : {M : Type 1} → statement M
 is-kind-spec = tie.close (tie.spec returns returns-2)

@@ -1,14 +1,10 @@
 -- `records::step::refuse` meets its contract: each arm is the step of its case.
 -- Assumes nothing.
 use mathlib.Core.Path.{sym, ap, _∙_}
-use Prim.Native.Nat.{_+_}
 use borrow.Author.Needs.{needs}
-use denote.Ref.{now}
-use Rattle.kindi.specs.Calls.{number, output}
-use Rattle.kindi.specs.Answers.{refused}
 use Rattle.records.specs.Record.{stepBy}
 use Rattle.records.specs.Header.{isWhole, headerNumber}
-use Rattle.records.proofs.Stepping.{finished-exit, answers-exit, never-true}
+use Rattle.records.proofs.Stepping.{never-true, end-exit, unknown-exit}
 use Rattle.records.proofs.step.refuse.Statement.{statement}
 use Rattle.records.proofs.step.refuse.Tie as tie
 
@@ -72,9 +68,9 @@ same-length c = search needs
 returns : tie.Need-returns
 unfolding stepBy headerNumber
 returns c =
-    let after-enum-told : tie.After-enum-told = search in
-    let after-stop : tie.After-stop = search in
-    rw (after-enum-told .enum-told .given .1) (after-stop .stop .ensures)
+    let told : tie.After-enum-told = search in
+    let stopped : tie.After-stop = search in
+    rw (told .enum-told .given .1) (stopped .stop .ensures)
 
 same-length-2 : tie.Need-same-length-2
 same-length-2 c = search needs
@@ -82,9 +78,9 @@ same-length-2 c = search needs
 returns-2 : tie.Need-returns-2
 unfolding stepBy headerNumber
 returns-2 c =
-    let after-enum-told2 : tie.After-enum-told2 = search in
-    let after-stop2 : tie.After-stop2 = search in
-    rw (after-enum-told2 .enum-told2 .given .1) (after-stop2 .stop2 .ensures)
+    let told : tie.After-enum-told2 = search in
+    let stopped : tie.After-stop2 = search in
+    rw (told .enum-told2 .given .1) (stopped .stop2 .ensures)
 
 same-length-3 : tie.Need-same-length-3
 same-length-3 c = search needs
@@ -92,38 +88,28 @@ same-length-3 c = search needs
 returns-3 : tie.Need-returns-3
 unfolding stepBy headerNumber
 returns-3 c =
-    let after-enum-told3 : tie.After-enum-told3 = search in
-    let after-stop3 : tie.After-stop3 = search in
-    rw (after-enum-told3 .enum-told3 .given .1) (after-stop3 .stop3 .ensures)
+    let told : tie.After-enum-told3 = search in
+    let stopped : tie.After-stop3 = search in
+    rw (told .enum-told3 .given .1) (stopped .stop3 .ensures)
 
 same-length-4 : tie.Need-same-length-4
 same-length-4 c = search needs
 
 returns-4 : tie.Need-returns-4
-unfolding stepBy headerNumber number output
 returns-4 c =
-    let start : tie.Start = search in
-    let after-header : tie.After-header = search in
-    let after-put-refusal : tie.After-put-refusal = search in
-    let a = start .args in
-    rw (after-header .header .given .1, c .new .ensures)
-    (answers-exit (a .done) (now (a .out)) (a .at) (after-header .header .given .0 .0) (refused 12)
-    (6 + after-header .header .given .0 .1 .0) (after-put-refusal .put-refusal .ensures))
+    let told : tie.After-header = search in
+    let put : tie.After-put-refusal = search in
+    unknown-exit (told .header .given .1) (c .new .ensures) (put .put-refusal .ensures)
 
 returns-5 : tie.Need-returns-5
-unfolding stepBy
-returns-5 c =
-    let start : tie.Start = search in
-    let after-enum-told4 : tie.After-enum-told4 = search in
-    rw (after-enum-told4 .enum-told4 .given .1, c .new2 .ensures)
-    (finished-exit (start .args .done) (now (start .args .out)) (start .args .at))
+returns-5 c = let told : tie.After-enum-told4 = search in end-exit (told .enum-told4 .given .1) (c .new2 .ensures)
 
 returns-6 : tie.Need-returns-6
 unfolding isWhole
 returns-6 c =
     let start : tie.Start = search in
-    let after-enum-told5 : tie.After-enum-told5 = search in
-    never-true (sym (ap isWhole (after-enum-told5 .enum-told5 .given .1)) ∙ start .pre .2)
+    let told : tie.After-enum-told5 = search in
+    never-true (sym (ap isWhole (told .enum-told5 .given .1)) ∙ start .pre .2)
 
 pub refuse-spec : {M : Type 1} → statement M
 refuse-spec =

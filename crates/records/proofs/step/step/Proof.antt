@@ -3,19 +3,12 @@
 use mathlib.Core.Path.{sym, _∙_}
 use native.Mathlib.Omega.{arith}
 use borrow.Author.Needs.{needs}
-use denote.Ref.{now}
 use lib.Seq.{length-take-le}
 use lib.ListN.{length-take}
 use Rattle.records.proofs.Stepping.{not-whole, refused-exit, whole-exit}
 use Rattle.records.proofs.Headers.{whole-there}
 use Rattle.records.proofs.step.step.Statement.{statement}
 use Rattle.records.proofs.step.step.Tie as tie
-
--- From a place back to one that is far before it.
-abbrev start-of-read-header : tie.After-read-header → tie.Start
-start-of-read-header c = search
-
-ruleset places = (start-of-read-header)
 
 read-header-requires : tie.Need-read-header-requires
 read-header-requires c κs = search needs
@@ -24,28 +17,17 @@ enum-known-header : tie.Need-enum-known-header
 enum-known-header c = search needs
 
 refuse-requires : tie.Need-refuse-requires
-refuse-requires c κs =
-    let start : tie.Start = search in
-    let after-read-header : tie.After-read-header = search in
-    let at-match-keys2 : tie.At-match-keys2 = search in (
-      start .pre .few,
-      omega (arith, start .pre .line-fits),
-      not-whole (after-read-header .read-header .result) (at-match-keys2 .match .keys2),
-    )
+refuse-requires c κs = let other : tie.At-match-keys2 = search in (search needs, search needs, not-whole _ (other .match .keys2))
 
 same-length : tie.Need-same-length
 same-length c = search needs
 
 returns : tie.Need-returns
 returns c =
-    let start : tie.Start = search in
-    let after-read-header : tie.After-read-header = search in
-    let at-match-keys2 : tie.At-match-keys2 = search in
-    let after-refuse : tie.After-refuse = search in
-    let a = start .args in
-    refused-exit (a .done) (a .at) (now (a .out)) (now (a .rest)) (after-read-header .read-header .result)
-    (after-read-header .read-header .ensures)
-    (not-whole (after-read-header .read-header .result) (at-match-keys2 .match .keys2)) (after-refuse .refuse .ensures)
+    let read : tie.After-read-header = search in
+    let other : tie.At-match-keys2 = search in
+    let gone : tie.After-refuse = search in
+    refused-exit _ (read .read-header .ensures) (not-whole _ (other .match .keys2)) (gone .refuse .ensures)
 
 cast-end : tie.Need-cast-end
 cast-end c = search needs
@@ -64,10 +46,9 @@ part-answer-start c = search needs
 
 part-answer-end : tie.Need-part-answer-end
 part-answer-end c =
-    let start : tie.Start = search in
-    let after-read-header : tie.After-read-header = search in
-    let after-header : tie.After-header = search in
-    omega (arith, whole-there (now (start .args .rest)) (sym (after-header .header .given .1) ∙ after-read-header .read-header .ensures))
+    let read : tie.After-read-header = search in
+    let told : tie.After-header = search in
+    whole-there _ (sym (told .header .given .1) ∙ read .read-header .ensures)
 
 answer-requires : tie.Need-answer-requires
 answer-requires c κs = search needs
@@ -79,33 +60,16 @@ slice-reshare-prefix-put-line : tie.Need-slice-reshare-prefix-put-line
 slice-reshare-prefix-put-line c = search needs
 
 slice-aggregate-put-line : tie.Need-slice-aggregate-put-line
-slice-aggregate-put-line c =
-    let start : tie.Start = search in
-    let after-answer : tie.After-answer = search in
-    sym (length-take-le _ _ (omega (arith, after-answer .answer .ensures .first-fits, start .pre .room .first-long)))
+slice-aggregate-put-line c = sym (length-take-le _ _ (search needs))
 
 slice-reshare-prefix-put-line-2 : tie.Need-slice-reshare-prefix-put-line-2
 slice-reshare-prefix-put-line-2 c = search needs
 
 slice-aggregate-put-line-2 : tie.Need-slice-aggregate-put-line-2
-slice-aggregate-put-line-2 c =
-    let start : tie.Start = search in
-    let after-answer : tie.After-answer = search in
-    sym (length-take-le _ _ (omega (arith, after-answer .answer .ensures .second-fits, start .pre .room .second-long)))
+slice-aggregate-put-line-2 c = sym (length-take-le _ _ (search needs))
 
 put-line-requires : tie.Need-put-line-requires
-put-line-requires c κs =
-    let start : tie.Start = search in
-    let after-answer : tie.After-answer = search in
-    let o = after-answer .answer in
-    omega (
-      arith,
-      start .pre .line-fits,
-      o .ensures .first-fits,
-      o .ensures .second-fits,
-      length-take (o .result .first) (o .last .1 .1 .1 .0),
-      length-take (o .result .second) (o .last .1 .1 .1 .1 .0),
-    )
+put-line-requires c κs = simp length-take (omega arith)
 
 add-new : tie.Need-add-new
 add-new c = search needs
@@ -130,18 +94,12 @@ same-length-5 c = search needs
 
 returns-2 : tie.Need-returns-2
 returns-2 c =
-    let after-put-line : tie.After-put-line = search in
-    let after-answer : tie.After-answer = search in
-    let after-header : tie.After-header = search in
-    let after-read-header : tie.After-read-header = search in
-    let start : tie.Start = search places in
-    let a = start .args in
-    let h = after-header .header in
-    let o = after-answer .answer in
-    rw (c .new .ensures)
-    (whole-exit (a .done) (a .at) (now (a .out)) (now (a .rest)) (h .given .0 .0) (h .given .0 .1 .0) (h .given .0 .1 .1 .0)
-    (o .last .1 .1 .1 .0) (o .last .1 .1 .1 .1 .0) (sym (h .given .1) ∙ after-read-header .read-header .ensures) (o .ensures)
-    (after-put-line .put-line .ensures))
+    let put : tie.After-put-line = search in
+    let answered : tie.After-answer = search in
+    let told : tie.After-header = search in
+    let read : tie.After-read-header = search in
+    whole-exit _ (told .header .given .1) (read .read-header .ensures) (answered .answer .ensures)
+    (put .put-line .ensures) (c .new .ensures)
 
 pub step-spec : {M : Type 1} → statement M
 step-spec =

@@ -1,7 +1,6 @@
 -- `records::step::stop` meets its contract.
 -- Assumes nothing.
 use borrow.Author.Needs.{needs}
-use denote.Ref.{now}
 use Rattle.records.proofs.Stepping.{stopped-exit}
 use Rattle.records.proofs.step.stop.Statement.{statement}
 use Rattle.records.proofs.step.stop.Tie as tie
@@ -22,12 +21,7 @@ same-length : tie.Need-same-length
 same-length c = search needs
 
 returns : tie.Need-returns
-returns c =
-    let start : tie.Start = search in
-    let after-put-refusal : tie.After-put-refusal = search in
-    rw (c .new .ensures)
-    (stopped-exit (start .args .done) (now (start .args .out)) (start .args .at) (start .args .status)
-    (after-put-refusal .put-refusal .ensures))
+returns c = let put : tie.After-put-refusal = search in stopped-exit (c .new .ensures) (put .put-refusal .ensures)
 
 pub stop-spec : {M : Type 1} → statement M
 stop-spec =

@@ -5,6 +5,7 @@ use mathlib.Core.Path.{refl}
 use Prim.Native.Nat.{_-_}
 use native.Mathlib.Omega.{arith}
 use lib.ListN.{length, length-take, length-drop}
+use borrow.Author.Needs.{needs}
 use Rattle.hash.proofs.sponge.Sponge.squeeze.Statement.{statement}
 use Rattle.hash.specs.Stream.{squeezed, advanced}
 use Rattle.hash.proofs.Steps.{Squeezing, squeezing-ready, squeezing-more, squeezing-all}
@@ -86,7 +87,7 @@ loop-again c =
     (gave .squeeze-part .ensures)
 
 same-length : tie.Need-same-length Inv-loop μ-loop
-same-length c = let turn : Turn = search in turn .loop .inv .long
+same-length c = search needs
 
 returns : tie.Need-returns Inv-loop μ-loop
 returns c =
