@@ -19,7 +19,7 @@ use Rattle.decryption_calls.proofs.padding.ending.Tie as tie
 -- How the first i bytes end: the last that is not 0, and its place.
 record Ended (xs : List ℕ) (i mark len : ℕ) : Type 0 where
   within : i ≤ length xs
-  before-end : len ≤ i
+  short : len ≤ i
   ends : ending (take i xs) ≡ endingOf xs mark len
 
 abbrev Inv-loop : tie.InvT-loop
@@ -29,7 +29,7 @@ abbrev μ-loop : tie.MeasureT-loop
 μ-loop xs mark₀ len₀ i₀ mark len i = length xs - i
 
 loop-holds : tie.Need-loop-holds Inv-loop μ-loop
-loop-holds c = record { within = omega arith; before-end = omega arith; ends = ending-none _ }
+loop-holds c = record { within = omega arith; short = omega arith; ends = ending-none _ }
 
 shared-slice-read-b : tie.Need-shared-slice-read-b Inv-loop μ-loop
 shared-slice-read-b c = omega arith
@@ -56,7 +56,7 @@ loop-again c =
     let place = c .select-place .ensures in
     record {
       within = omega arith;
-      before-end = rw place (place-within (eqb (getD xs (h .i) 0) 0) (h .inv .before-end));
+      short = rw place (place-within (eqb (getD xs (h .i) 0) 0) (h .inv .short));
       ends = rw (add-one, byte .select-byte .ensures, place) (ending-next xs (h .i) (h .mark) (h .len) (omega arith) (h .inv .ends));
     }
 

@@ -1,7 +1,10 @@
 -- `records::header::read_header` meets its contract: each return is a case of the definition.
 -- Assumes nothing.
 use borrow.Author.Needs.{needs}
-use Rattle.records.proofs.Headers.{read-end, read-short, read-unmarked, read-cut, read-unknown, read-whole}
+use Rattle.records.proofs.Headers.{read-end, read-short, read-unmarked, read-cut, read-unknown, read-whole, Marked}
+use mathlib.Core.Bool.{not}
+use mathlib.Core.Path.{sym, ap, _∙_}
+use denote.Ref.{now}
 use Rattle.records.proofs.header.read_header.Statement.{statement}
 use Rattle.records.proofs.header.read_header.Tie as tie
 
@@ -15,7 +18,23 @@ is-marked-requires : tie.Need-is-marked-requires
 is-marked-requires c κs = search needs
 
 returns-3 : tie.Need-returns-3
-returns-3 c = read-unmarked _ (search needs) (cc)
+returns-3 c =
+    let mark : tie.After-is-marked = search in
+    read-unmarked _ (search needs) (ap not (sym (mark .is-marked .ensures)) ∙ c .if3 .taken)
+
+-- The checks of the length and the mark have passed.
+marked : (c : tie.After-body-length) →
+    let start : tie.Start = search in
+    Marked (now (start .args .rest)) (c .body-length .result)
+marked c =
+    let enough : tie.Else2 = search in
+    let mark : tie.After-is-marked = search in
+    let passed : tie.Else3 = search in
+    record {
+      enough = enough .if2 .left;
+      mark = ap not (sym (mark .is-marked .ensures)) ∙ passed .if3 .left;
+      is-body = c .body-length .ensures;
+    }
 
 shared-slice-read-kind : tie.Need-shared-slice-read-kind
 shared-slice-read-kind c = search needs
@@ -31,17 +50,26 @@ is-kind-requires c κs = search needs
 
 returns-4 : tie.Need-returns-4
 returns-4 c =
-    let body : tie.After-body-length = search in
-    read-cut _ (body .body-length .result) (record { enough = search needs; mark = cc; is-body = cc }) (cc)
+    let cut : tie.After-is-cut = search in
+    read-cut _ _ (marked search) (sym (cut .is-cut .ensures) ∙ c .if4 .taken)
 
 returns-5 : tie.Need-returns-5
-returns-5 c = read-unknown _ _ (record { enough = search needs; mark = cc; is-body = cc }) (cc) (cc)
+returns-5 c =
+    let cut : tie.After-is-cut = search in
+    let kind : tie.After-is-kind = search in
+    let whole : tie.Else4 = search in
+    read-unknown _ _ (marked search) (sym (cut .is-cut .ensures) ∙ whole .if4 .left) (ap not (sym (kind .is-kind .ensures)) ∙ c .if5 .taken)
 
 shared-slice-read-t10 : tie.Need-shared-slice-read-t10
 shared-slice-read-t10 c = search needs
 
 returns-6 : tie.Need-returns-6
-returns-6 c = read-whole _ _ (record { enough = search needs; mark = cc; is-body = cc }) (cc) (cc)
+returns-6 c =
+    let cut : tie.After-is-cut = search in
+    let kind : tie.After-is-kind = search in
+    let whole : tie.Else4 = search in
+    let known : tie.Else5 = search in
+    read-whole _ _ (marked search) (sym (cut .is-cut .ensures) ∙ whole .if4 .left) (ap not (sym (kind .is-kind .ensures)) ∙ known .if5 .left)
 
 pub read-header-spec : {M : Type 1} → statement M
 read-header-spec =
