@@ -6,12 +6,30 @@ use native.Mathlib.Nat.{mod-eq-of-lt, div-eq-of-lt, mul-one, div-one, add-zero, 
 use native.Mathlib.Omega.{arith}
 use lib.Bits.{bitOr, or-self, or-shifted}
 use lib.Pow.{mod-pow-add, shr-lt, shl-shr}
-use Rattle.keccak.specs.Keccak.{rotl}
+use lib.ListN.{getD}
+use Rattle.keccak.specs.Keccak.{five, xorRow, column, effect, theta, rotl}
 
 -- Two lists of five are equal when their entries are.
 pub five-equal : {A : Type 0} {a b c d e a′ b′ c′ d′ e′ : A} → a ≡ a′ → b ≡ b′ → c ≡ c′ → d ≡ d′ → e ≡ e′
     → _≡_ {A = List A} (a ∷ b ∷ c ∷ d ∷ e ∷ []) (a′ ∷ b′ ∷ c′ ∷ d′ ∷ e′ ∷ [])
 five-equal p q r s t = λ i. p i ∷ q i ∷ r i ∷ s i ∷ t i ∷ []
+
+-- Theta row by row: s has the sums of the columns, d their effects, which are added to each row.
+pub theta-rows : (a : List (List ℕ)) {p q r s d t0 t1 t2 t3 t4 : List ℕ} → p ≡ xorRow (getD a 0 []) (getD a 1 []) → q ≡ xorRow p (getD a 2 [])
+    → r ≡ xorRow q (getD a 3 []) → s ≡ xorRow r (getD a 4 []) → d ≡ five (effect s)
+    → t0 ≡ xorRow (getD a 0 []) d → t1 ≡ xorRow (getD a 1 []) d → t2 ≡ xorRow (getD a 2 []) d → t3 ≡ xorRow (getD a 3 []) d
+    → t4 ≡ xorRow (getD a 4 []) d
+    → _≡_ {A = List (List ℕ)} (t0 ∷ t1 ∷ t2 ∷ t3 ∷ t4 ∷ []) (theta a)
+unfolding theta
+theta-rows a {s = s} {d = d} ep eq er es ed e0 e1 e2 e3 e4 =
+    let with-row : List ℕ → ℕ → List ℕ = λ l y. xorRow l (getD a y []) in
+    let sums : s ≡ five (column a) =
+    es ∙ ap (λ (l : List ℕ). with-row l 4) (er ∙ ap (λ (l : List ℕ). with-row l 3) (eq ∙ ap (λ (l : List ℕ). with-row l 2) ep))
+    in
+    let effects : d ≡ five (effect (five (column a))) = ed ∙ ap (λ (l : List ℕ). five (effect l)) sums in
+    let row : ℕ → List ℕ → List ℕ = λ y l. xorRow (getD a y []) l in
+    five-equal (e0 ∙ ap (row 0) effects) (e1 ∙ ap (row 1) effects) (e2 ∙ ap (row 2) effects) (e3 ∙ ap (row 3) effects)
+    (e4 ∙ ap (row 4) effects)
 
 -- A lane moved up by k places holds its j low bits, where j and k are 64 together.
 shifted : (j k v : ℕ) → j + k ≡ 64 → (v * 2 ^ k) % 2 ^ 64 ≡ (v % 2 ^ j) * 2 ^ k

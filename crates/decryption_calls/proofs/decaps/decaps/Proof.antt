@@ -24,14 +24,7 @@ same-length : tie.Need-same-length
 same-length c = search needs
 
 returns : tie.Need-returns
-returns c =
-    let known : tie.After-parameters = search in
-    let after-decrypt-work : tie.After-decrypt-work = search in
-    let checked : tie.After-status = search in
-    let then1 : tie.Then1 = search in
-    let refused : tie.After-finish = search in
-    decaps-refused _ _ _ _ _ _ _ (known .parameters .ensures .are) (checked .status .ensures) (then1 .if1 .taken)
-    (after-decrypt-work .decrypt-work .ensures) (refused .finish .ensures)
+returns c = search decaps-refused
 
 zeros-requires : tie.Need-zeros-requires
 zeros-requires c κs = search needs
@@ -84,16 +77,7 @@ same-length-3 : tie.Need-same-length-3
 same-length-3 c = search needs
 
 returns-2 : tie.Need-returns-2
-returns-2 c =
-    let wiped : tie.After-finish2 = search in
-    let opened : tie.After-open-key = search in
-    let passed : tie.Else1 = search in
-    let checked : tie.After-status = search in
-    let after-decrypt-work : tie.After-decrypt-work = search in
-    let known : tie.After-parameters = search in
-    decaps-exit _ _ _ _ _ _ _ (known .parameters .ensures .are) (checked .status .ensures) _ (passed .if1 .left)
-    (opened .open-key .ensures) (after-decrypt-work .decrypt-work .ensures) (opened .open-key .kept .1 .1 .1 .1 .1 .1 .0)
-    (wiped .finish2 .ensures)
+returns-2 c = search decaps-exit
 
 pub decaps-spec : {M : Type 1} → statement M
 decaps-spec =

@@ -24,14 +24,7 @@ same-length : tie.Need-same-length
 same-length c = search needs
 
 returns : tie.Need-returns
-returns c =
-    let known : tie.After-parameters = search in
-    let after-decrypt-work : tie.After-decrypt-work = search in
-    let checked : tie.After-status = search in
-    let then1 : tie.Then1 = search in
-    let refused : tie.After-finish = search in
-    decrypt-refused _ _ _ _ _ _ _ _ (known .parameters .ensures .are) (checked .status .ensures) (then1 .if1 .taken)
-    (after-decrypt-work .decrypt-work .ensures) (refused .finish .ensures)
+returns c = search decrypt-refused
 
 zeros-requires : tie.Need-zeros-requires
 zeros-requires c κs = search needs
@@ -72,16 +65,7 @@ same-length-4 : tie.Need-same-length-4
 same-length-4 c = search needs
 
 returns-2 : tie.Need-returns-2
-returns-2 c =
-    let wiped : tie.After-finish2 = search in
-    let opened : tie.After-open-message = search in
-    let passed : tie.Else1 = search in
-    let checked : tie.After-status = search in
-    let after-decrypt-work : tie.After-decrypt-work = search in
-    let known : tie.After-parameters = search in
-    decrypt-exit _ _ _ _ _ _ _ _ (known .parameters .ensures .are) (checked .status .ensures) _ (passed .if1 .left)
-    (opened .open-message .ensures) (after-decrypt-work .decrypt-work .ensures) (opened .open-message .kept .1 .1 .1 .1 .1 .1 .1 .0)
-    (wiped .finish2 .ensures)
+returns-2 c = search decrypt-exit
 
 pub decrypt-spec : {M : Type 1} → statement M
 decrypt-spec =

@@ -24,14 +24,7 @@ same-length : tie.Need-same-length
 same-length c = search needs
 
 returns : tie.Need-returns
-returns c =
-    let known : tie.After-parameters = search in
-    let after-encrypt-work : tie.After-encrypt-work = search in
-    let checked : tie.After-status = search in
-    let then1 : tie.Then1 = search in
-    let refused : tie.After-finish = search in
-    encaps-refused _ _ _ _ _ _ _ _ (known .parameters .ensures .are) (checked .status .ensures) (then1 .if1 .taken)
-    (after-encrypt-work .encrypt-work .ensures) (refused .finish .ensures)
+returns c = search encaps-refused
 
 -- The key's buffer is as long as the coins, once the lengths are checked.
 long : (c : tie.Else1) →
@@ -52,15 +45,7 @@ digest-requires c κs =
     (after-parameters .parameters .ensures .well, long (search))
 
 encrypt-requires : tie.Need-encrypt-requires
-encrypt-requires c κs =
-    let start : tie.Start = search in
-    let known : tie.After-parameters = search in
-    let checked : tie.After-status = search in
-    let passed : tie.Else1 = search in
-    let digested : tie.After-digest = search in
-    let key = now (start .args .key) in
-    encaps-fits _ _ _ _ key _ _ _ (known .parameters .ensures .are) (checked .status .ensures) _ (passed .if1 .left)
-    (digested .digest .kept .1 .1 .0)
+encrypt-requires c κs = search encaps-fits
 
 shared-key-requires : tie.Need-shared-key-requires
 shared-key-requires c κs = (after-parameters .parameters .ensures .well, digested .digest .kept .1 .1 .0 ∙ long passed)
@@ -87,18 +72,7 @@ same-length-4 : tie.Need-same-length-4
 same-length-4 c = search needs
 
 returns-2 : tie.Need-returns-2
-returns-2 c =
-    let wiped : tie.After-finish2 = search in
-    let keyed : tie.After-shared-key = search in
-    let made : tie.After-encrypt = search in
-    let digested : tie.After-digest = search in
-    let passed : tie.Else1 = search in
-    let checked : tie.After-status = search in
-    let after-encrypt-work : tie.After-encrypt-work = search in
-    let known : tie.After-parameters = search in
-    encaps-exit _ _ _ _ _ _ _ _ (known .parameters .ensures .are) (checked .status .ensures) _ (passed .if1 .left)
-    (digested .digest .ensures) (made .encrypt .ensures) (keyed .shared-key .ensures)
-    (after-encrypt-work .encrypt-work .ensures) (made .encrypt .kept .1 .1 .1 .1 .1 .0) (wiped .finish2 .ensures)
+returns-2 c = search encaps-exit
 
 pub encaps-spec : {M : Type 1} → statement M
 encaps-spec =

@@ -22,14 +22,7 @@ same-length : tie.Need-same-length
 same-length c = search needs
 
 returns : tie.Need-returns
-returns c =
-    let known : tie.After-parameters = search in
-    let after-encrypt-work : tie.After-encrypt-work = search in
-    let checked : tie.After-status = search in
-    let then1 : tie.Then1 = search in
-    let refused : tie.After-finish = search in
-    encrypt-refused _ _ _ _ _ _ _ _ (known .parameters .ensures .are) (checked .status .ensures) (then1 .if1 .taken)
-    (after-encrypt-work .encrypt-work .ensures) (refused .finish .ensures)
+returns c = search encrypt-refused
 
 encrypt-requires : tie.Need-encrypt-requires
 encrypt-requires c κs =
@@ -54,15 +47,7 @@ same-length-3 : tie.Need-same-length-3
 same-length-3 c = search needs
 
 returns-2 : tie.Need-returns-2
-returns-2 c =
-    let wiped : tie.After-finish2 = search in
-    let made : tie.After-encrypt = search in
-    let passed : tie.Else1 = search in
-    let checked : tie.After-status = search in
-    let after-encrypt-work : tie.After-encrypt-work = search in
-    let known : tie.After-parameters = search in
-    encrypt-exit _ _ _ _ _ _ _ _ (known .parameters .ensures .are) (checked .status .ensures) _ (passed .if1 .left)
-    (made .encrypt .ensures) (after-encrypt-work .encrypt-work .ensures) (made .encrypt .kept .1 .1 .1 .1 .1 .0) (wiped .finish2 .ensures)
+returns-2 c = search encrypt-exit
 
 pub encrypt-spec : {M : Type 1} → statement M
 encrypt-spec =

@@ -22,14 +22,7 @@ same-length : tie.Need-same-length
 same-length c = search needs
 
 returns : tie.Need-returns
-returns c =
-    let known : tie.After-parameters = search in
-    let after-keygen-work : tie.After-keygen-work = search in
-    let checked : tie.After-status = search in
-    let then1 : tie.Then1 = search in
-    let refused : tie.After-finish = search in
-    keygen-refused _ _ _ _ _ _ _ _ _ (known .parameters .ensures .are) (checked .status .ensures) (then1 .if1 .taken)
-    (after-keygen-work .keygen-work .ensures .0) (refused .finish .ensures)
+returns c = search keygen-refused
 
 keygen-requires : tie.Need-keygen-requires
 keygen-requires c κs =
@@ -57,15 +50,7 @@ same-length-4 : tie.Need-same-length-4
 same-length-4 c = search needs
 
 returns-2 : tie.Need-returns-2
-returns-2 c =
-    let wiped : tie.After-finish2 = search in
-    let made : tie.After-keygen = search in
-    let passed : tie.Else1 = search in
-    let checked : tie.After-status = search in
-    let after-keygen-work : tie.After-keygen-work = search in
-    let known : tie.After-parameters = search in
-    keygen-exit _ _ _ _ _ _ _ _ _ (known .parameters .ensures .are) (checked .status .ensures) _ (passed .if1 .left)
-    (made .keygen .ensures) (after-keygen-work .keygen-work .ensures .0) (made .keygen .kept .1 .1 .1 .1 .1 .1 .0) (wiped .finish2 .ensures)
+returns-2 c = search keygen-exit
 
 pub keygen-spec : {M : Type 1} → statement M
 keygen-spec =

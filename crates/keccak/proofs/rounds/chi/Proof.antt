@@ -38,17 +38,7 @@ chi-row-requires-5 c κs = search needs
 
 returns : tie.Need-returns
 unfolding chi
-returns c =
-    let after-chi-row : tie.After-chi-row = search in
-    let after-chi-row2 : tie.After-chi-row2 = search in
-    let after-chi-row3 : tie.After-chi-row3 = search in
-    let after-chi-row4 : tie.After-chi-row4 = search in
-    five-equal
-    (after-chi-row .chi-row .ensures)
-    (after-chi-row2 .chi-row2 .ensures)
-    (after-chi-row3 .chi-row3 .ensures)
-    (after-chi-row4 .chi-row4 .ensures)
-    (c .chi-row5 .ensures)
+returns c = search five-equal
 
 pub chi-spec : {M : Type 1} → statement M
 chi-spec =

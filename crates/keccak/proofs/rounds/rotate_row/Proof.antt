@@ -51,17 +51,7 @@ rotl-requires-5 : tie.Need-rotl-requires-5
 rotl-requires-5 c κs = search needs
 
 returns : tie.Need-returns
-returns c =
-    let after-rotl : tie.After-rotl = search in
-    let after-rotl2 : tie.After-rotl2 = search in
-    let after-rotl3 : tie.After-rotl3 = search in
-    let after-rotl4 : tie.After-rotl4 = search in
-    five-equal
-    (after-rotl .rotl .ensures)
-    (after-rotl2 .rotl2 .ensures)
-    (after-rotl3 .rotl3 .ensures)
-    (after-rotl4 .rotl4 .ensures)
-    (c .rotl5 .ensures)
+returns c = search five-equal
 
 pub rotate-row-spec : {M : Type 1} → statement M
 rotate-row-spec =

@@ -1,13 +1,8 @@
 -- `keccak::rounds::theta` meets its contract: the parities are those of the columns, and each row has their effects added.
 -- Assumes nothing.
-use mathlib.Core.Path.{_≡_, ap, _∙_}
-use mathlib.Core.List.{List, []}
-use Prim.Native.Nat.{ℕ}
 use borrow.Author.Needs.{needs}
-use lib.ListN.{getD}
-use Rattle.keccak.proofs.Rows.{five-equal}
 use Rattle.keccak.proofs.rounds.theta.Statement.{statement}
-use Rattle.keccak.specs.Keccak.{theta, five, column, effect, xorRow}
+use Rattle.keccak.proofs.Rows.{theta-rows}
 use Rattle.keccak.proofs.rounds.theta.Tie as tie
 
 array-copy-out-xor-row : tie.Need-array-copy-out-xor-row
@@ -71,35 +66,7 @@ xor-row-requires-9 : tie.Need-xor-row-requires-9
 xor-row-requires-9 c κs = search needs
 
 returns : tie.Need-returns
-unfolding theta
-returns c =
-    let after-xor-row8 : tie.After-xor-row8 = search in
-    let after-xor-row7 : tie.After-xor-row7 = search in
-    let after-xor-row6 : tie.After-xor-row6 = search in
-    let after-xor-row5 : tie.After-xor-row5 = search in
-    let after-effects : tie.After-effects = search in
-    let after-xor-row4 : tie.After-xor-row4 = search in
-    let after-xor-row3 : tie.After-xor-row3 = search in
-    let after-xor-row2 : tie.After-xor-row2 = search in
-    let after-xor-row : tie.After-xor-row = search in
-    let start : tie.Start = search in
-    let a = start .args .t1 in
-    let sums : after-xor-row4 .xor-row4 .result ≡ five (column a) =
-    after-xor-row4 .xor-row4 .ensures
-    ∙ ap (λ (p : List ℕ). xorRow p (getD a 4 []))
-    (after-xor-row3 .xor-row3 .ensures
-    ∙ ap (λ (p : List ℕ). xorRow p (getD a 3 []))
-    (after-xor-row2 .xor-row2 .ensures ∙ ap (λ (p : List ℕ). xorRow p (getD a 2 [])) (after-xor-row .xor-row .ensures)))
-    in
-    let d : after-effects .effects .result ≡ five (effect (five (column a))) =
-    after-effects .effects .ensures ∙ ap (λ (p : List ℕ). five (effect p)) sums
-    in
-    five-equal
-    (after-xor-row5 .xor-row5 .ensures ∙ ap (xorRow (getD a 0 [])) d)
-    (after-xor-row6 .xor-row6 .ensures ∙ ap (xorRow (getD a 1 [])) d)
-    (after-xor-row7 .xor-row7 .ensures ∙ ap (xorRow (getD a 2 [])) d)
-    (after-xor-row8 .xor-row8 .ensures ∙ ap (xorRow (getD a 3 [])) d)
-    (c .xor-row9 .ensures ∙ ap (xorRow (getD a 4 [])) d)
+returns c = let start : tie.Start = search in search (theta-rows (start .args .t1))
 
 pub theta-spec : {M : Type 1} → statement M
 theta-spec =

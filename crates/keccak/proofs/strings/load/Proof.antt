@@ -76,25 +76,7 @@ join-requires-8 : tie.Need-join-requires-8
 join-requires-8 c κs = search needs
 
 returns : tie.Need-returns
-returns c =
-    let start : tie.Start = search in
-    let after-join : tie.After-join = search in
-    let after-join2 : tie.After-join2 = search in
-    let after-join3 : tie.After-join3 = search in
-    let after-join4 : tie.After-join4 = search in
-    let after-join5 : tie.After-join5 = search in
-    let after-join6 : tie.After-join6 = search in
-    let after-join7 : tie.After-join7 = search in
-    let a = start .args in
-    lane-joined (now (a .s)) (a .i) (start .pre)
-    (after-join .join .ensures .is)
-    (after-join2 .join2 .ensures .is)
-    (after-join3 .join3 .ensures .is)
-    (after-join4 .join4 .ensures .is)
-    (after-join5 .join5 .ensures .is)
-    (after-join6 .join6 .ensures .is)
-    (after-join7 .join7 .ensures .is)
-    (c .join8 .ensures .is)
+returns c = let start : tie.Start = search in search (lane-joined (now (start .args .s)) (start .args .i))
 
 pub load-spec : {M : Type 1} → statement M
 load-spec =

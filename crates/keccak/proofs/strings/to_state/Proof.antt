@@ -23,17 +23,7 @@ load-row-requires-5 c κs = search needs
 
 returns : tie.Need-returns
 unfolding toState
-returns c =
-    let after-load-row : tie.After-load-row = search in
-    let after-load-row2 : tie.After-load-row2 = search in
-    let after-load-row3 : tie.After-load-row3 = search in
-    let after-load-row4 : tie.After-load-row4 = search in
-    five-equal
-    (after-load-row .load-row .ensures)
-    (after-load-row2 .load-row2 .ensures)
-    (after-load-row3 .load-row3 .ensures)
-    (after-load-row4 .load-row4 .ensures)
-    (c .load-row5 .ensures)
+returns c = search five-equal
 
 pub to-state-spec : {M : Type 1} → statement M
 to-state-spec =

@@ -27,14 +27,7 @@ same-length : tie.Need-same-length
 same-length c = search needs
 
 returns : tie.Need-returns
-returns c =
-    let known : tie.After-parameters = search in
-    let after-noise-work : tie.After-noise-work = search in
-    let checked : tie.After-status = search in
-    let then1 : tie.Then1 = search in
-    let refused : tie.After-finish = search in
-    choose-refused _ _ _ _ _ _ _ (known .parameters .ensures .are) (checked .status .ensures) (then1 .if1 .taken)
-    (after-noise-work .noise-work .ensures) (refused .finish .ensures)
+returns c = search choose-refused
 
 zeros-requires : tie.Need-zeros-requires
 zeros-requires c κs = search needs
@@ -76,16 +69,7 @@ same-length-2 : tie.Need-same-length-2
 same-length-2 c = search needs
 
 returns-2 : tie.Need-returns-2
-returns-2 c =
-    let wiped : tie.After-finish2 = search in
-    let chosen : tie.After-choose-fitting = search in
-    let passed : tie.Else1 = search in
-    let checked : tie.After-status = search in
-    let after-noise-work : tie.After-noise-work = search in
-    let known : tie.After-parameters = search in
-    choose-exit _ _ _ _ _ _ _ (known .parameters .ensures .are) (checked .status .ensures) _ (passed .if1 .left)
-    (chosen .choose-fitting .ensures) (after-noise-work .noise-work .ensures) (chosen .choose-fitting .kept .1 .1 .1 .1 .1 .1 .0)
-    (wiped .finish2 .ensures)
+returns-2 c = search choose-exit
 
 pub choose-spec : {M : Type 1} → statement M
 choose-spec =

@@ -107,7 +107,7 @@ same-length : tie.Need-same-length Inv-loop μ-loop
 same-length c = let turn : Turn = search in turn .loop .inv .long
 
 returns : tie.Need-returns Inv-loop μ-loop
-returns c = let turn : Turn = search in search-ends (turn .loop .inv .so-far) (c .loop-test .left)
+returns c = search search-ends
 
 pub search-spec : {M : Type 1} → statement M
 search-spec =
