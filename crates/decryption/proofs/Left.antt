@@ -2,21 +2,18 @@
 use mathlib.Core.Path.{_≡_, refl, sym, ap, ap₂, _∙_}
 use mathlib.Core.Bool.{Bool, true, false, _&&_}
 use mathlib.Core.List.{List, [], _∷_, _++_}
-use Prim.Native.Nat.{ℕ, suc, _+_, _-_, _*_, _^_, _≤_, _<_, suc-le-suc, zero-le}
+use Prim.Native.Nat.{ℕ, suc, _-_, _<_, suc-le-suc, zero-le}
 use native.Mathlib.Nat.{add-zero}
-use native.Mathlib.Omega.{arith}
 use lib.Dec.{ltb}
-use lib.IntN.{ℤ, pos, _+ℤ_, _-ℤ_}
+use lib.IntN.{pos, _+ℤ_, _-ℤ_}
 use lib.ListN.{length, getD, take, drop}
-use lib.Pow.{pow-pos}
 use lib.Seq.{take-suc}
 use Rattle.keccak.proofs.Parts.{take-rest}
 use Rattle.bits.specs.Bits.{Below, pack, unpack, lowBits}
 use Rattle.bits.proofs.Digits.{length-unpack, length-lowBits}
-use Rattle.ring.specs.Integers.{Cong}
-use Rattle.ring.specs.Poly.{Poly, plus, minus, ofNats, residues}
+use Rattle.ring.specs.Poly.{plus, minus, ofNats, residues}
 use Rattle.ring.specs.Coefficients.{added, subtracted}
-use Rattle.ring.proofs.Modular.{cong-refl, cong-of-eq, cong-trans, cong-add}
+use Rattle.ring.proofs.Modular.{cong-of-eq, cong-trans, cong-add}
 use Rattle.ring.proofs.Residues.{residues-cong, residues-ext, residues-low, length-residues, ofNats-residues}
 use Rattle.kindi.specs.declared.Params.{Params}
 use Rattle.kindi.specs.Params.{WellFormed, modulus, width, lengthOf}

@@ -1,8 +1,7 @@
 -- The encryption with the mask as it is, and the padded message that a ciphertext beside it has. Assumes nothing.
 use mathlib.Core.Path.{_≡_, refl, sym, ap, ap₂, _∙_}
-use mathlib.Core.Bool.{Bool}
 use mathlib.Core.List.{List, [], _∷_, _++_}
-use Prim.Native.Nat.{ℕ, zero, suc, _+_, _-_, _*_, _^_, _≤_, _<_}
+use Prim.Native.Nat.{ℕ, zero, suc, _+_, _-_, _*_, _≤_, _<_}
 use native.Mathlib.Nat.{le-step, one-mul, le-refl, add-sub-cancel-left}
 use native.Mathlib.Omega.{arith}
 use lib.IntN.{ℤ, pos, _+ℤ_, _-ℤ_, -ℤ-+ℤ-cancel}
@@ -15,8 +14,8 @@ use Rattle.hash.proofs.Laws.{length-shake}
 use Rattle.keccak.proofs.Parts.{patched}
 use Rattle.bits.specs.Bits.{pack, lowBits}
 use Rattle.bits.proofs.Digits.{lowBits-append, lowBits-below, length-lowBits}
-use Rattle.ring.specs.Integers.{Cong, residue}
-use Rattle.ring.specs.Poly.{Poly, plus, residues}
+use Rattle.ring.specs.Integers.{residue}
+use Rattle.ring.specs.Poly.{plus, residues}
 use Rattle.ring.proofs.Integers.{ring}
 use Rattle.ring.proofs.Modular.{cong-refl, cong-of-eq, cong-trans, cong-add, cong-sub, residue-cong}
 use Rattle.ring.proofs.Residues.{residues-cong, residues-at, residues-below, length-residues}
@@ -25,14 +24,14 @@ use Rattle.kindi.specs.Params.{WellFormed, modulus, width, lengthOf, storedLeng
 use Rattle.kindi.specs.Streams.{coefficient, smallIn, mask, coinsStream}
 use Rattle.kindi.specs.Keys.{joined, matrixSeed, publicPart, secretSeed}
 use Rattle.kindi.specs.Encrypt.{noiseless}
-use Rattle.kindi.specs.Decrypt.{cipherPart, remainder, remainders, errorsFit, roundedCoins}
+use Rattle.kindi.specs.Decrypt.{cipherPart, remainder, remainders}
 use Rattle.kindi.proofs.Strings.{coefficient-packed, whole-bytes}
 use Rattle.kindi.proofs.Padding.{length-mask}
 use Rattle.encryption.specs.Layout.{cipherFrom}
 use Rattle.encryption.proofs.Assembly.{streams-cipher}
 use Rattle.vectors.proofs.Joining.{pack-joined}
 use Rattle.encryption.proofs.Expanding.{drop-past}
-use Rattle.decryption.specs.Opened.{maskCipher, leftPoly, leftOver, opened, OpenExit}
+use Rattle.decryption.specs.Opened.{maskCipher, leftOver, opened}
 use Rattle.decryption.proofs.Left.{length-left}
 
 -- ---- lists

@@ -1,21 +1,20 @@
 -- V as the code computes it modulo 2^16, and the coins that it rounds to. Assumes nothing.
-use mathlib.Core.Path.{_≡_, refl, sym, ap, ap₂, _∙_}
-use mathlib.Core.List.{List, _++_, map}
-use Prim.Native.Nat.{ℕ, zero, suc, _+_, _-_, _*_, _/_, _%_, _^_, _≤_, _<_, suc-le-suc, zero-le}
+use mathlib.Core.Path.{_≡_, sym, ap, ap₂, _∙_}
+use mathlib.Core.List.{List, map}
+use Prim.Native.Nat.{ℕ, suc, _+_, _-_, _*_, _/_, _%_, _^_, _≤_, _<_, suc-le-suc, zero-le}
 use native.Mathlib.Nat.{mod-add-div, add-mul-div-left, add-mul-mod-self-left, mod-mod, mul-assoc, mul-suc, mul-le-mul-left, mul-le-mul}
 use native.Mathlib.Nat.{mul-le-mul-right, one-mul, le-trans, le-add-right, pow-suc, lt-of-lt-of-le}
 use native.Mathlib.Omega.{arith}
 use lib.IntN.{ℤ, pos, negℤ, _+ℤ_, _-ℤ_}
 use lib.ListN.{length}
 use lib.Pow.{pow-pos, pow-mono}
-use Rattle.keccak.specs.Lists.{tabulate}
 use Rattle.hash.specs.Shake.{shake, shakeFrom}
 use Rattle.hash.proofs.Laws.{length-shake, shake-split}
 use Rattle.bits.specs.Bits.{Below, pack, unpack, lowBits}
 use Rattle.bits.proofs.Digits.{length-unpack, unpack-below}
 use Rattle.bits.proofs.Filling.{map-tabulate, tabulate-ext}
 use Rattle.ring.specs.Integers.{Cong, residue, centred}
-use Rattle.ring.specs.Poly.{Poly, plus, minus, dot, parts, ofNats, residues}
+use Rattle.ring.specs.Poly.{Poly, plus, dot, parts, ofNats, residues}
 use Rattle.ring.proofs.Integers.{ring}
 use Rattle.ring.proofs.Modular.{cong-refl, cong-of-eq, cong-trans, cong-add, cong-neg, cong-sub, cong-power, residue-power, residue-eq}
 use Rattle.ring.proofs.Residues.{residues-cong, length-residues, ofNats-residues, residues-of-list}

@@ -1,7 +1,7 @@
 -- The polynomials of a ciphertext as `cipher_parts` writes them. Assumes nothing.
 use mathlib.Core.Path.{_≡_, refl, sym, ap, _∙_}
 use mathlib.Core.List.{List}
-use Prim.Native.Nat.{ℕ, _+_, _-_, _<_}
+use Prim.Native.Nat.{ℕ, _-_, _<_}
 use native.Mathlib.Nat.{add-zero}
 use lib.IntN.{_+ℤ_}
 use lib.ListN.{length, take, drop}

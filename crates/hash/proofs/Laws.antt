@@ -10,7 +10,7 @@ use lib.Seq.{ext-getD, take-at, drop-at}
 use Rattle.hash.proofs.Blocks.{start, finished-is, outputByte, squeezed-at}
 use Rattle.keccak.proofs.Entries.{tabulate-at, tabulate-add, length-tabulate}
 use Rattle.hash.proofs.Octets.{bytes-zeros, bytes-absorbBlocks, bytes-permutes}
-use Rattle.hash.proofs.Steps.{sponge, sound-fresh, sound-absorbed, sound-finished, squeezed-ready, squeezed-append, length-squeezed}
+use Rattle.hash.proofs.Steps.{sound-fresh, sound-absorbed, sound-finished, squeezed-ready, squeezed-append, length-squeezed}
 use Rattle.keccak.specs.Lists.{tabulate}
 use Rattle.hash.specs.Shake.{absorbAll, shakeByte, shakeFrom, shake}
 use Rattle.hash.specs.Stream.{Sound, fresh, absorbed, finished, squeezed, advanced}

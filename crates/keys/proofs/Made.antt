@@ -6,7 +6,7 @@ use Prim.Native.Nat.{ℕ, zero, suc, _+_, _-_, _*_, _/_, _^_, _≤_, _<_}
 use native.Mathlib.Nat.{add-zero, one-mul, mod-eq-of-lt, mul-le-mul-right, suc-mul}
 use native.Mathlib.Omega.{arith}
 use lib.IntN.{_+ℤ_}
-use lib.ListN.{length, take, drop, length-map, length-take, length-append}
+use lib.ListN.{length, take, drop, length-map, length-append}
 use lib.Seq.{take-at, drop-at}
 use lib.Pow.{pow-pos, shr-lt}
 use Rattle.hash.specs.Shake.{shake}

@@ -1,7 +1,7 @@
 -- The theorems of the running calls: a call of a set that there is, with outputs of their exact lengths and a work area that is
 -- long enough, answers what the theorems speak of. Assumes nothing.
 use mathlib.Core.Path.{_≡_, refl, sym, ap, _∙_}
-use mathlib.Core.Bool.{Bool, true, not, _&&_}
+use mathlib.Core.Bool.{Bool, true, _&&_}
 use mathlib.Core.List.{List}
 use Prim.Native.Nat.{ℕ, _-_, _≤_}
 use borrow.Author.Tests.{eq-eqb, le-leb}
@@ -11,7 +11,7 @@ use Rattle.kindi.specs.declared.Params.{Params}
 use Rattle.kindi.specs.Params.{isSet, ofSet, publicLength, secretLength, ciphertextLength, paddedLength, keygenWork, encryptWork, decryptWork, noiseWork}
 use Rattle.kindi.specs.Keys.{publicPart}
 use Rattle.kindi.specs.Noise.{clear}
-use Rattle.kindi.specs.Answers.{Answer, answered, refuseIf, Keys, Plain, Shared, keygen, encrypt, encaps, recoveredCoins, decrypt, decaps, noiseOf}
+use Rattle.kindi.specs.Answers.{Answer, answered, refuseIf, Keys, keygen, encrypt, encaps, recoveredCoins, decrypt, decaps, noiseOf}
 use Rattle.kindi.specs.Calls.{inSet, keygenCall, encryptCall, encapsCall, decryptCall, decapsCall, noiseCall}
 use Rattle.kindi.proofs.Sets.{of-set-well}
 use Rattle.kindi.proofs.Strict.{Encapsulated, decrypt-iff, decaps-iff}

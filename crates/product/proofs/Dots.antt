@@ -5,7 +5,7 @@ use Prim.Native.Nat.{ℕ, suc, _+_, _-_, _*_, _≤_, _<_, suc-le-suc, zero-le}
 use native.Mathlib.Nat.{add-sub-cancel-left, mul-le-mul-left, mul-le-mul, mul-suc, mul-comm}
 use native.Mathlib.Numerals.{add-one}
 use native.Mathlib.Omega.{arith}
-use lib.IntN.{pos, negℤ, _+ℤ_, _*ℤ_, +ℤ-assoc, +ℤ-idr}
+use lib.IntN.{pos, negℤ, _*ℤ_, +ℤ-assoc, +ℤ-idr}
 use lib.ListN.{length, getD, take, drop, length-take, length-drop, length-append}
 use lib.Seq.{getD-take, getD-drop, take-append-seam}
 use Rattle.bits.specs.Bits.{Below}

@@ -9,13 +9,13 @@ use lib.ListN.{length, getD, drop, set, length-append, length-drop}
 use mir.Syntax.{w16, w32}
 use mir.Val.{SFits, toZ, ofZ}
 use mir.ValLaws.{toZ-ofZ}
-use Rattle.bits.proofs.Filling.{Filling, filling-begun, filling-more, filling-at, filling-all}
+use Rattle.bits.proofs.Filling.{Filling, filling-begun, filling-more, filling-at}
 use Rattle.ring.proofs.Integers.{natAbs-add}
 use Rattle.ring.proofs.Sizes.{dot-fits, fits-abs, word-sum, term-read, four-terms}
 use Rattle.ring.proofs.Sums.{sum-split}
 use Rattle.ring.specs.Integers.{largest}
-use Rattle.ring.specs.Poly.{Poly, sum, shifted, mul, plus, ofInts}
-use Rattle.ring.specs.Coefficients.{Summable, withSignedProduct}
+use Rattle.ring.specs.Poly.{sum, shifted, mul, plus, ofInts}
+use Rattle.ring.specs.Coefficients.{Summable}
 use Rattle.ring.specs.Terms.{backwards, negatedBackwards, terms}
 use Rattle.signed.proofs.Reversal.{row-at, met, met-long, met-size, met-product, product-bound}
 

@@ -1,8 +1,8 @@
 -- Laws of sums of products with errors, modulo 2^16 and then modulo q. Assumes nothing.
 use mathlib.Core.Path.{_≡_, ap, _∙_}
 use mathlib.Core.List.{List}
-use Prim.Native.Nat.{ℕ, _+_, _^_, _<_, suc-le-suc, zero-le}
-use lib.IntN.{_+ℤ_, +ℤ-comm}
+use Prim.Native.Nat.{ℕ, _<_, suc-le-suc, zero-le}
+use lib.IntN.{+ℤ-comm}
 use lib.ListN.{length}
 use Rattle.bits.specs.Bits.{lowBits}
 use Rattle.ring.specs.Integers.{Cong}

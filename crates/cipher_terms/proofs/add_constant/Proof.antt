@@ -1,6 +1,5 @@
 -- `cipher_terms::add_constant` meets its contract.
 -- Assumes nothing.
-use Prim.Native.Nat.{_-_}
 use native.Mathlib.Omega.{arith}
 use borrow.Author.Needs.{needs}
 use Rattle.cipher_terms.proofs.add_constant.Statement.{statement}

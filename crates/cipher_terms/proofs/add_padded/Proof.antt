@@ -1,7 +1,6 @@
 -- `cipher_terms::add_padded` meets its contract.
 -- Assumes nothing.
 use Rattle.cipher_terms.proofs.Masks.{xor-end}
-use Prim.Native.Nat.{_-_}
 use denote.Ref.{now}
 use borrow.Author.Needs.{needs}
 use Rattle.cipher_terms.proofs.add_padded.Statement.{statement}

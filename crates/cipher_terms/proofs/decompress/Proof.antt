@@ -2,7 +2,6 @@
 -- Assumes nothing.
 use Rattle.vectors.specs.Vectors.{vector}
 use lib.ListN.{length, length-take}
-use Prim.Native.Nat.{_-_}
 use native.Mathlib.Omega.{arith}
 use mathlib.Core.Path.{_≡_}
 use borrow.Author.Needs.{needs}

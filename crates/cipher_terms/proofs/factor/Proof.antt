@@ -2,7 +2,6 @@
 -- Assumes nothing.
 use Rattle.cipher_terms.proofs.Terms.{factor-column, factor-last}
 use Rattle.kindi.specs.Streams.{matrixIn, lowIn}
-use Prim.Native.Nat.{_-_}
 use denote.Ref.{now}
 use native.Mathlib.Omega.{arith}
 use mathlib.Core.Path.{_∙_}

@@ -3,7 +3,7 @@
 use Rattle.decryption.proofs.Masked.{public-taken, left-all, left-opened, mask-there}
 use Rattle.decryption.specs.Opened.{leftOver, maskCipher}
 use Rattle.vectors.proofs.Amounts.{begun-length}
-use Rattle.kindi.specs.Params.{width, matrixLength, lowLength, paddedLength, publicLength}
+use Rattle.kindi.specs.Params.{width, matrixLength, lowLength, paddedLength}
 use Rattle.kindi.specs.Keys.{joined, matrixSeed, publicPart}
 use Rattle.kindi.specs.Streams.{mask}
 use Rattle.kindi.specs.Decrypt.{errorsFit}

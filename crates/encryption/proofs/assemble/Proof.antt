@@ -5,7 +5,7 @@ use Rattle.vectors.proofs.Amounts.{begun-length, part-length}
 use Rattle.keccak.proofs.Parts.{take-rest}
 use lib.Seq.{take-at}
 use lib.ListN.{length, take, drop, length-take, length-drop}
-use Prim.Native.Nat.{_+_, _*_, _-_}
+use Prim.Native.Nat.{_+_, _*_}
 use denote.Ref.{now}
 use native.Mathlib.Omega.{arith}
 use mathlib.Core.List.{_++_}

@@ -2,7 +2,7 @@
 -- Assumes nothing.
 use Rattle.vectors.proofs.Amounts.{fills}
 use Rattle.bits.specs.Bits.{pack, lowBits}
-use Prim.Native.Nat.{ℕ, _-_}
+use Prim.Native.Nat.{ℕ}
 use mathlib.Core.List.{List}
 use mathlib.Core.Path.{ap, _∙_}
 use borrow.Author.Needs.{needs}

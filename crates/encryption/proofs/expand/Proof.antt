@@ -2,7 +2,6 @@
 -- Assumes nothing.
 use Rattle.encryption.proofs.Expanding.{expand-is}
 use lib.ListN.{length, take, length-take}
-use Prim.Native.Nat.{_-_}
 use denote.Ref.{now}
 use native.Mathlib.Omega.{arith}
 use mathlib.Core.Path.{_≡_, _∙_}

@@ -1,6 +1,5 @@
 -- `noise::masked_stream` meets its contract.
 -- Assumes nothing.
-use Prim.Native.Nat.{_-_}
 use borrow.Author.Needs.{needs}
 use denote.Ref.{now}
 use Rattle.noise.proofs.Streams.{masked-made}

@@ -4,7 +4,6 @@
 -- Assumes nothing.
 use lib.Pow.{pow-lt}
 use native.Mathlib.Nat.{one-mul, mod-eq-of-lt}
-use Prim.Native.Nat.{_-_}
 use borrow.Author.Needs.{needs}
 use Rattle.vectors.proofs.power.Statement.{statement}
 use Rattle.vectors.proofs.power.Tie as tie

@@ -3,7 +3,6 @@
 -- `vectors::small` meets its contract.
 -- Assumes nothing.
 use Rattle.ring.specs.Coefficients.{centredWords}
-use Prim.Native.Nat.{_-_}
 use mathlib.Core.Path.{ap, _∙_}
 use borrow.Author.Needs.{needs}
 use Rattle.vectors.proofs.small.Statement.{statement}

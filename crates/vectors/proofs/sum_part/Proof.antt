@@ -8,7 +8,7 @@ use Rattle.vectors.proofs.Amounts.{reads, width-bound, vectors-of}
 use Rattle.vectors.proofs.Sums.{sum-part}
 use native.Mathlib.Nat.{one-mul}
 use Rattle.kindi.specs.Params.{width}
-use Prim.Native.Nat.{ℕ, _-_}
+use Prim.Native.Nat.{ℕ}
 use denote.Ref.{now}
 use borrow.Author.Needs.{needs}
 use Rattle.vectors.proofs.sum_part.Statement.{statement}

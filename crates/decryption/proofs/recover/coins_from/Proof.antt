@@ -9,7 +9,7 @@ use Rattle.ring.specs.Coefficients.{centredWords}
 use Prim.Native.Nat.{ℕ}
 use denote.Ref.{now}
 use mathlib.Core.List.{List}
-use mathlib.Core.Path.{_≡_, ap, ap₂, _∙_}
+use mathlib.Core.Path.{ap, ap₂, _∙_}
 use borrow.Author.Needs.{needs}
 use Rattle.decryption.proofs.recover.coins_from.Statement.{statement}
 use Rattle.decryption.proofs.recover.coins_from.Tie as tie

@@ -7,7 +7,7 @@ use Rattle.kindi.specs.Params.{width, lengthOf}
 use Rattle.vectors.proofs.Joining.{first-same}
 use lib.ListN.{length, take, drop, length-take}
 use lib.Seq.{take-at}
-use Prim.Native.Nat.{ℕ, _*_, _≤_}
+use Prim.Native.Nat.{ℕ, _≤_}
 use denote.Ref.{now}
 use native.Mathlib.Omega.{arith}
 use mathlib.Core.List.{List, _++_}

@@ -3,7 +3,7 @@
 use Rattle.bits.proofs.Filling.{filled, filled-none, filled-more, filled-at, filled-all, tabulate-entries, map-tabulate}
 use Rattle.kindi.specs.Decrypt.{roundedBit}
 use lib.ListN.{length, getD, length-set}
-use Prim.Native.Nat.{ℕ, _-_, _^_, _≤_}
+use Prim.Native.Nat.{_-_, _^_, _≤_}
 use denote.Ref.{now}
 use native.Mathlib.Omega.{arith}
 use mathlib.Core.List.{map}

@@ -8,8 +8,7 @@ use Rattle.ring.specs.Coefficients.{added, subtracted}
 use Prim.Native.Nat.{ℕ}
 use native.Mathlib.Nat.{one-mul}
 use denote.Ref.{now}
-use mathlib.Core.List.{List}
-use mathlib.Core.Path.{_≡_, sym, ap, ap₂, _∙_}
+use mathlib.Core.Path.{sym, ap, ap₂, _∙_}
 use borrow.Author.Needs.{needs}
 use Rattle.decryption.proofs.remainders.remainder.Statement.{statement}
 use Rattle.decryption.proofs.remainders.remainder.Tie as tie

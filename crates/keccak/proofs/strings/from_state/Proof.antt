@@ -17,10 +17,7 @@ Inv-loop a s₀ y₀ s y = PartsWritten rowString a 40 5 y s
 abbrev μ-loop : tie.MeasureT-loop
 μ-loop a s₀ y₀ s y = 5 - y
 
--- The places of the code that the answers name.
-abbrev Start : Type 0
-Start = tie.Start Inv-loop μ-loop
-
+-- The place of the code that the answers name.
 abbrev Turn : Type 0
 Turn = tie.At-loop Inv-loop μ-loop
 

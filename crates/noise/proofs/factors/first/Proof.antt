@@ -1,7 +1,6 @@
 -- `noise::factors::first` meets its contract.
 -- Assumes nothing.
 use mathlib.Core.Path.{_≡_, sym}
-use Prim.Native.Nat.{_-_}
 use borrow.Author.Needs.{needs}
 use lib.ListN.{length}
 use Rattle.noise.proofs.Tables.{prefix-long}

@@ -1,13 +1,13 @@
 -- `ring::poly::add` meets its contract: after k turns the first k coefficients are added.
 -- Assumes nothing.
-use mathlib.Core.Path.{_≡_, refl, ap, _∙_}
+use mathlib.Core.Path.{refl, ap, _∙_}
 use mathlib.Core.List.{List}
-use Prim.Native.Nat.{ℕ, _-_, _≤_}
+use Prim.Native.Nat.{ℕ, _-_}
 use native.Mathlib.Omega.{arith}
 use borrow.Author.Needs.{needs}
 use denote.Ref.{now}
 use lib.IntN.{pos, _+ℤ_}
-use lib.ListN.{length, length-set}
+use lib.ListN.{length}
 use Rattle.bits.proofs.Filling.{Filling, filling-begun, filling-more, filling-at, filling-all}
 use Rattle.ring.specs.Integers.{residue}
 use Rattle.ring.specs.Poly.{plus, ofNats, residues}

@@ -2,7 +2,6 @@
 -- Assumes nothing.
 use Rattle.vectors.proofs.Amounts.{part-bound, length-bound}
 use Rattle.kindi.specs.Params.{lengthOf}
-use Prim.Native.Nat.{_-_}
 use native.Mathlib.Omega.{arith}
 use mathlib.Core.Path.{refl}
 use Rattle.vectors.proofs.lengths.length_of.Statement.{statement}

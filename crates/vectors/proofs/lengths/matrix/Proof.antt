@@ -1,7 +1,6 @@
 -- `vectors::lengths::matrix` meets its contract.
 -- Assumes nothing.
 use Rattle.vectors.proofs.Amounts.{square}
-use Prim.Native.Nat.{_-_}
 use native.Mathlib.Omega.{arith}
 use borrow.Author.Needs.{needs}
 use Rattle.vectors.proofs.lengths.matrix.Statement.{statement}

@@ -1,7 +1,7 @@
 -- `vectors::lengths::secrets` meets its contract.
 -- Assumes nothing.
 use Rattle.kindi.specs.Params.{width, lengthOf}
-use Prim.Native.Nat.{_*_, _-_}
+use Prim.Native.Nat.{_*_}
 use mathlib.Core.Path.{ap, _∙_}
 use borrow.Author.Needs.{needs}
 use Rattle.vectors.proofs.lengths.secrets.Statement.{statement}
