@@ -27,8 +27,9 @@ LONGEST_LINE = 160
 # A crate that goes as it is, with the next change of the noise.
 GOING = {"signed_product"}
 
-# What the prover says of a proof file that names a need that the edited code no longer has.
-STALE = "that can be named from here"
+# What the prover says of a proof file that names a need or a place that the edited code no longer has, or
+# looks for a place where the edited code has it no more.
+STALE = re.compile(r"that can be named from here|no proof of `(?:[^`\s]*\.)?(?:Start|Turn|(?:After|At|In)-|(?:Then|Else)\d)")
 
 
 def relative(path):
@@ -129,7 +130,7 @@ def check_edits():
         error = first_error(log.read_text(errors="replace"))
         if error is None:
             yield f"{relative(edit)}: {relative(log)} has no error"
-        elif STALE in error:
+        elif STALE.search(error):
             yield f"{relative(edit)} is refused because a proof file no longer fits, not because a fact fails: {error[:500]}"
 
 
