@@ -24,8 +24,6 @@ MACHINE_PATH = re.compile(r"(?<![\w.-])/(?:work|root|home|opt|Users|mnt|srv)/")
 STEPS_LEFT = 100
 CHAIN = re.compile(r"(?:\.before\s+){2}\.before(?![\w-])")
 LONGEST_LINE = 160
-# A crate that goes as it is, with the next change of the noise.
-GOING = {"signed_product"}
 
 # What the prover says of a proof file that names a need or a place that the edited code no longer has, or
 # looks for a place where the edited code has it no more.
@@ -137,8 +135,6 @@ def check_edits():
 def check_proofs():
     steps = 0
     for path in sorted(CRATES.glob("*/proofs/**/*.antt")):
-        if path.relative_to(CRATES).parts[0] in GOING:
-            continue
         text = path.read_text()
         code = re.sub(r"^\s*--.*$", "", text, flags=re.MULTILINE)
         steps += len(re.findall(r"\.before(?![\w-])", code))
@@ -149,6 +145,14 @@ def check_proofs():
                 yield f"{relative(path)}:{number} has {len(line)} characters, over {LONGEST_LINE}"
     if steps > STEPS_LEFT:
         yield f"the proofs count {steps} places back, over {STEPS_LEFT}"
+
+
+def check_citations():
+    """A definition that a contract cites stands in specs/, and rests on nothing in proofs/."""
+    for path in sorted([*CRATES.glob("*/src/**/*.rt"), *CRATES.glob("*/specs/*.antt")]):
+        for number, line in enumerate(path.read_text().splitlines(), 1):
+            if re.match(r"(?:ghost )?use Rattle·\S*\bproofs\.", line):
+                yield f"{relative(path)}:{number} names a file of proofs: {line.strip()}"
 
 
 def committed_files():
@@ -174,7 +178,7 @@ def check_paths():
                 yield f"{relative(path)}:{number} has an absolute path of a machine: {line.strip()[:200]}"
 
 
-CHECKS = [check_crates, check_kinds, check_format, check_exports, check_proofs, check_edits, check_paths]
+CHECKS = [check_crates, check_kinds, check_format, check_exports, check_citations, check_proofs, check_edits, check_paths]
 
 
 def main():

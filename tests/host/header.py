@@ -2,10 +2,9 @@
 """The header compiles alone, as C99 and as C++17, with every warning an error; and each length and
 refusal number that it has is the second implementation's, in a constant and at run time."""
 
-import re
 import sys
 
-from support import BUILD, HEADER, INCLUDE, ROOT, WARNINGS, check, main, run
+from support import BUILD, HEADER, INCLUDE, ROOT, WARNINGS, check, defined_lengths, main, run
 
 sys.path.insert(0, str(ROOT / "tests"))
 
@@ -31,12 +30,6 @@ LENGTHS = {
 STATUSES = ("KINDI_OK", "KINDI_NO_SUCH_SET", "KINDI_WRONG_INPUT_LEN", "KINDI_MESSAGE_TOO_LONG",
             "KINDI_WRONG_OUTPUT_LEN", "KINDI_ERROR_TOO_LARGE", "KINDI_WRONG_PADDING", "KINDI_WRONG_DIGEST",
             "KINDI_WRONG_PUBLIC_KEY", "KINDI_NONE_CLEAR")
-
-
-def defined_lengths():
-    """The names of the header's macros that are lengths, as the compiler reads it."""
-    listing = run(["gcc", "-std=c99", "-E", "-dM", "-x", "c", HEADER])
-    return set(re.findall(r"^#define (KINDI_\w*_LEN)\(", listing, re.MULTILINE))
 
 
 def length(name, number):

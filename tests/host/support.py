@@ -4,6 +4,7 @@ import ctypes
 import multiprocessing
 import os
 import random
+import re
 import subprocess
 import sys
 from concurrent.futures import ProcessPoolExecutor
@@ -79,6 +80,12 @@ def declared_functions():
         if f"/{HEADER.name}:" in where:
             names.add(prototype.partition("(")[0].split()[-1].lstrip("*"))
     return names
+
+
+def defined_lengths():
+    """The names of the header's macros that are lengths, as the compiler reads it."""
+    listing = run(["gcc", "-std=c99", "-E", "-dM", "-x", "c", HEADER])
+    return set(re.findall(r"^#define (KINDI_\w*_LEN)\(", listing, re.MULTILINE))
 
 
 class Guarded:

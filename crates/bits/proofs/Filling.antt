@@ -6,9 +6,8 @@ use native.Mathlib.Numerals.{add-one}
 use native.Mathlib.Omega.{arith}
 use lib.ListN.{length, getD, drop, set, replicate, length-set, drop-of-length-le}
 use lib.Seq.{drop-cons, drop-drop, take-at, drop-at, getD-append-add, getD-drop, set-at}
-use Rattle.keccak.specs.Lists.{tabulate}
+use Rattle.keccak.specs.Lists.{tabulate, patched}
 use Rattle.keccak.proofs.Entries.{length-tabulate, tabulate-add}
-use Rattle.keccak.proofs.Parts.{patched}
 
 -- The list xs with its first i entries replaced by f 0 to f (i − 1).
 abbrev pub filled : {A : Type 0} → ℕ → (ℕ → A) → List A → List A

@@ -8,10 +8,10 @@ use lib.IntN.{ℤ, pos, _+ℤ_, _-ℤ_, -ℤ-+ℤ-cancel}
 use lib.ListN.{length, take, drop, length-take, length-append, take-append-drop}
 use lib.Pow.{pow-pos}
 use lib.Seq.{take-take, take-at, drop-at}
+use Rattle.keccak.specs.Lists.{patched}
 use Rattle.keccak.specs.Strings.{xorInto}
 use Rattle.hash.specs.Shake.{shake}
 use Rattle.hash.proofs.Laws.{length-shake}
-use Rattle.keccak.proofs.Parts.{patched}
 use Rattle.bits.specs.Bits.{pack, lowBits}
 use Rattle.bits.proofs.Digits.{lowBits-append, lowBits-below, length-lowBits}
 use Rattle.ring.specs.Integers.{residue}

@@ -9,8 +9,9 @@ use lib.Bits.{bitXor, xor-self, xor-zero-r}
 use lib.Dec.{eqb}
 use lib.ListN.{length, take, drop, getD, replicate, length-append, length-take, length-drop}
 use lib.Seq.{take-suc, take-append-seam}
+use Rattle.keccak.specs.Lists.{patched}
 use Rattle.keccak.specs.Strings.{xorInto}
-use Rattle.keccak.proofs.Parts.{xorInto-nothing, patched, patched-rest}
+use Rattle.keccak.proofs.Parts.{xorInto-nothing, patched-rest}
 use Rattle.kindi.specs.declared.Params.{Params}
 use Rattle.kindi.specs.Params.{paddedLength}
 use Rattle.kindi.specs.Encrypt.{padded}

@@ -9,8 +9,9 @@ use borrow.Author.Tests.{eqb-true, not-false}
 use lib.Dec.{eqb}
 use lib.ListN.{length, take, drop, length-take, length-drop}
 use lib.Seq.{length-take-le, take-take, take-at, drop-at}
+use Rattle.keccak.specs.Lists.{patched}
 use Rattle.keccak.specs.Strings.{xorInto}
-use Rattle.keccak.proofs.Parts.{length-xorInto, patched}
+use Rattle.keccak.proofs.Parts.{length-xorInto}
 use Rattle.kindi.specs.declared.Params.{Params}
 use Rattle.kindi.specs.Params.{WellFormed, paddedLength, matrixLength, lowLength}
 use Rattle.kindi.specs.Keys.{publicPart, secretSeed}

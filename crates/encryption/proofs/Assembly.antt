@@ -10,9 +10,10 @@ use lib.IntN.{ℤ, pos, _+ℤ_, _*ℤ_}
 use lib.ListN.{length, take, drop, length-take}
 use lib.Pow.{pow-pos}
 use lib.Seq.{take-at, drop-at, drop-drop}
+use Rattle.keccak.specs.Lists.{patched}
 use Rattle.hash.specs.Shake.{shake}
 use Rattle.hash.proofs.Laws.{length-shake}
-use Rattle.keccak.proofs.Parts.{patched, take-rest}
+use Rattle.keccak.proofs.Parts.{take-rest}
 use Rattle.bits.specs.Bits.{pack}
 use Rattle.ring.specs.Poly.{Poly, plus, dot, transposed, unit, parts, residues}
 use Rattle.ring.proofs.Modular.{cong-add, cong-refl, cong-power}

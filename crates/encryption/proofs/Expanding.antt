@@ -6,9 +6,10 @@ use native.Mathlib.Nat.{add-sub-cancel-left}
 use native.Mathlib.Omega.{arith}
 use lib.ListN.{length, take, drop, length-append, length-take, length-drop}
 use lib.Seq.{take-at, take-append-add, drop-append-add}
+use Rattle.keccak.specs.Lists.{patched}
 use Rattle.keccak.specs.Strings.{xorInto}
 use Rattle.hash.specs.Shake.{shake}
-use Rattle.keccak.proofs.Parts.{patched, patched-rest}
+use Rattle.keccak.proofs.Parts.{patched-rest}
 use Rattle.kindi.specs.declared.Params.{Params}
 use Rattle.kindi.specs.Params.{matrixLength, lowLength, paddedLength, coinsStreamLength, encryptWork}
 use Rattle.kindi.specs.Streams.{coinsStream, mask}

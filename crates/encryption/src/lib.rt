@@ -3,6 +3,7 @@ ghost use mathlib.Core.Path.{_≡_};
 ghost use mathlib.Core.List.{_++_};
 ghost use Prim.Native.Nat.{_+_, _≤_, _<_};
 ghost use lib.ListN.{length};
+ghost use Rattle.keccak.specs.Lists.{patched};
 ghost use Rattle.hash.specs.Shake.{shake as Shake·shake};
 ghost use Rattle.bits.specs.Bits.{pack as Bits·pack, lowBits};
 ghost use Rattle.ring.specs.Poly.{residues, parts, plus, dot};
@@ -10,7 +11,6 @@ ghost use Rattle.kindi.specs.Params.{WellFormed, modulus, lengthOf, matrixLengt
 ghost use Rattle.kindi.specs.Streams.{matrixIn, smallIn, lowIn, coinsStream};
 ghost use Rattle.kindi.specs.Keys.{joined};
 ghost use Rattle.kindi.specs.Encrypt.{masked as Encrypt·masked, factorBy, ciphertext};
-ghost use Rattle.keccak.proofs.Parts.{patched};
 ghost use Rattle.vectors.specs.Vectors.{sumPart, Rows};
 ghost use Rattle.encryption.specs.Layout.{cipherFrom};
 ghost use Rattle.encryption.specs.Inputs.{CipherRoom, AssembleRoom, EncryptRoom};

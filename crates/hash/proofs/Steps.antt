@@ -12,7 +12,8 @@ use borrow.Author.Tests.{eq-eqb, ne-eqb}
 use lib.Bits.{bitXor}
 use lib.ListN.{length, getD, take, drop, set, take-append-drop, length-take, length-drop}
 use lib.Seq.{drop-cons, take-add, take-all}
-use Rattle.keccak.proofs.Parts.{patched, length-patched, patched-rest, take-patched, take-rest, xorInto-nothing}
+use Rattle.keccak.specs.Lists.{patched}
+use Rattle.keccak.proofs.Parts.{length-patched, patched-rest, take-patched, take-rest, xorInto-nothing}
 use Rattle.keccak.specs.Strings.{xorInto}
 use Rattle.hash.specs.Stream.{Sound, Squeezed, fresh, permuted, ready, absorbByte, absorbed, finished, nextByte, passed, squeezed, advanced}
 use Rattle.hash.specs.declared.sponge.Sponge.{Sponge}

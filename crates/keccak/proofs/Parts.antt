@@ -8,15 +8,11 @@ use native.Mathlib.Numerals.{add-one, towards-suc, unary-clauses}
 use native.Mathlib.Omega.{arith}
 use lib.Bits.{bitXor}
 use lib.ListN.{length, getD, take, drop, set, length-append, length-take, length-drop, drop-of-length-le}
-use lib.Seq.{take-append-seam, take-suc, drop-cons, sets-eq, take-all, take-at}
-use Rattle.keccak.specs.Lists.{concatMap, value, digits}
+use lib.Seq.{take-append-seam, drop-append-seam, drop-drop, take-suc, drop-cons, sets-eq, take-all, take-at}
+use Rattle.keccak.specs.Lists.{concatMap, patched, value, digits}
 use Rattle.keccak.specs.Strings.{laneAt, xorInto}
 
 -- ---- a part of a string that has come back
-
--- The list xs with ys in the place of its k entries from a on, as the checker writes it.
-abbrev pub patched : {A : Type 0} → ℕ → ℕ → List A → List A → List A
-patched a k ys xs = take a xs ++ (ys ++ drop k (drop a xs))
 
 pub length-patched : (a k : ℕ) (ys xs : List ℕ) → length ys ≡ k → a + k ≤ length xs → length (patched a k ys xs) ≡ length xs
 length-patched a k ys xs e h =
@@ -28,6 +24,13 @@ take-patched a k ys xs e h =
     let before : length (take a xs ++ ys) ≡ a + k = simp (length-append, length-take, e) (omega arith) in
     let whole : patched a k ys xs ≡ (take a xs ++ ys) ++ drop k (drop a xs) = sym (append-assoc (take a xs) ys (drop k (drop a xs))) in
     ap₂ take (sym before) whole ∙ take-append-seam (take a xs ++ ys) (drop k (drop a xs))
+
+-- Behind it, it is as it was.
+pub drop-patched : (a k : ℕ) (ys xs : List ℕ) → length ys ≡ k → a + k ≤ length xs → drop (a + k) (patched a k ys xs) ≡ drop (a + k) xs
+drop-patched a k ys xs e h =
+    let before : length (take a xs ++ ys) ≡ a + k = simp (length-append, length-take, e) (omega arith) in
+    let whole : patched a k ys xs ≡ (take a xs ++ ys) ++ drop k (drop a xs) = sym (append-assoc (take a xs) ys (drop k (drop a xs))) in
+    ap₂ drop (sym before) whole ∙ drop-append-seam (take a xs ++ ys) (drop k (drop a xs)) ∙ drop-drop k a xs
 
 -- The part from a to the end.
 pub patched-rest : {A : Type 0} (a : ℕ) (ys xs : List A) → patched a (length xs - a) ys xs ≡ take a xs ++ ys

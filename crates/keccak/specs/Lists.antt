@@ -1,6 +1,7 @@
--- Lists by their entries, and numbers as their digits in base 2^w, low digit first. Rests on nothing.
+-- Lists by their entries and parts, and numbers as their digits in base 2^w, low digit first. Rests on nothing.
 use mathlib.Core.List.{List, [], _∷_, _++_}
 use Prim.Native.Nat.{ℕ, zero, suc, _+_, _*_, _/_, _%_, _^_}
+use lib.ListN.{take, drop}
 
 -- The list of f 0 to f (n − 1).
 unfoldable pub tabulate : {A : Type 0} → ℕ → (ℕ → A) → List A
@@ -11,6 +12,10 @@ tabulate (suc n) f = f zero ∷ tabulate n (λ i. f (suc i))
 unfoldable pub concatMap : {A : Type 0} → (A → List ℕ) → List A → List ℕ
 concatMap f [] = []
 concatMap f (x ∷ xs) = f x ++ concatMap f xs
+
+-- The list xs with ys in the place of its k entries from a on: a part of a slice that was lent and has come back.
+abbrev pub patched : {A : Type 0} → ℕ → ℕ → List A → List A → List A
+patched a k ys xs = take a xs ++ (ys ++ drop k (drop a xs))
 
 -- The number with these digits in base 2^w, the first one lowest.
 unfoldable pub value : ℕ → List ℕ → ℕ

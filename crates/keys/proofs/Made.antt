@@ -9,8 +9,9 @@ use lib.IntN.{_+ℤ_}
 use lib.ListN.{length, take, drop, length-map, length-append}
 use lib.Seq.{take-at, drop-at}
 use lib.Pow.{pow-pos, shr-lt}
+use Rattle.keccak.specs.Lists.{patched}
 use Rattle.hash.specs.Shake.{shake}
-use Rattle.keccak.proofs.Parts.{patched, patched-rest, take-rest}
+use Rattle.keccak.proofs.Parts.{patched-rest, take-rest}
 use Rattle.hash.proofs.Laws.{length-shake}
 use Rattle.bits.specs.Bits.{Below, pack, unpack, lowBits}
 use Rattle.ring.specs.Integers.{Cong, centred}

@@ -4,7 +4,7 @@ use mathlib.Core.Path.{_≡_, refl, sym, ap, _∙_}
 use mathlib.Core.Bool.{true}
 use mathlib.Core.List.{List}
 use Prim.Native.Nat.{ℕ}
-use borrow.Author.Tests.{not-false}
+use borrow.Author.Tests.{leb-false, not-false}
 use lib.ListN.{length}
 use Rattle.bits.specs.Bits.{Below}
 use Rattle.kindi.specs.declared.Params.{Params}
@@ -16,10 +16,10 @@ use Rattle.kindi.specs.Kem.{digest}
 use Rattle.kindi.specs.Noise.{clear}
 use Rattle.kindi.specs.Answers.{answered, Keys, Plain, Shared, Size, keygen, encrypt, encaps, decrypt, decaps, noiseOf}
 use Rattle.kindi.specs.Answers.{recoveredCoins, agrees, clearUnder}
-use Rattle.kindi.proofs.Chains.{passed, same-length, same-eq, answered-eq, encrypted, encapsulated, recovered-answers}
+use Rattle.kindi.proofs.Chains.{passed, same-length, same-eq, answered-eq, encrypted, encrypt-answers, encapsulated, recovered-answers}
 use Rattle.kindi.proofs.Made.{length-ciphertext, ciphertext-below, length-secretKey, publicPart-made, secretSeed-made}
 use Rattle.kindi.proofs.Rounding.{clear-coins}
-use Rattle.kindi.proofs.Strict.{decrypt-iff, decaps-iff}
+use Rattle.kindi.proofs.Strict.{length-publicPart, decrypt-iff, decaps-iff}
 
 -- A secret key that holds the seed γ and the public key made from μ and γ.
 pub record Holds (P : Params) (μ γ sk : List ℕ) : Type 0 where
@@ -119,6 +119,22 @@ clear-injective P w μ γ z coins message coins' message' ct keys bc bm bc' bm' 
     (ap (λ (p : Plain). p .coins) same, ap (λ (p : Plain). p .message) same)
 
 -- ---- any secret key
+
+-- Where the noise call answers, encryption under the stored public key does.
+pub noise-encrypts : (P : Params) (sk coins message : List ℕ) (size : Size) → noiseOf P true sk coins message ≡ answered size
+    → encrypt P true (publicPart P sk) coins message ≡ answered (ciphertext P (publicPart P sk) coins message)
+unfolding noiseOf
+noise-encrypts P sk coins message size n =
+    let c1 = passed _ 2 n in
+    let c2 = passed _ 2 (c1 .1) in
+    let c3 = passed _ 3 (c2 .1) in
+    encrypt-answers P (publicPart P sk) coins message (ciphertext P (publicPart P sk) coins message)
+    (record {
+      key-long = length-publicPart P sk (same-length (c1 .0));
+      coins-long = same-length (c2 .0);
+      fits = leb-false _ _ (c3 .0);
+      is = refl;
+    })
 
 -- Where the noise call answers clear, for any secret key, decryption of the encryption under its stored public key returns the pair.
 pub noise-clear : (P : Params) → WellFormed P → (sk coins message : List ℕ) → Below 256 coins → Below 256 message

@@ -1,5 +1,6 @@
 -- The laws and theorems of the scheme.
 pub mod Sets
+pub mod Lengths
 pub mod Strings
 pub mod Chains
 pub mod Padding

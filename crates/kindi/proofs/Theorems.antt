@@ -2,6 +2,10 @@
 
 -- The four sets are well formed, so each theorem holds of each of them.
 pub use Rattle.kindi.proofs.Sets.{of-set-well}
+-- The lengths of the four sets are the numbers of 01's table.
+pub use Rattle.kindi.proofs.Lengths.{lengths}
+-- No work area of well-formed parameters is over 65,536 bytes.
+pub use Rattle.kindi.proofs.Lengths.{work-areas}
 -- Decryption gives (coins, message) exactly when the coins are the ones found by rounding and encrypting the message with them
 -- under the stored public key gives the same ciphertext.
 pub use Rattle.kindi.proofs.Strict.{decrypt-iff}
@@ -17,7 +21,5 @@ pub use Rattle.kindi.proofs.Correct.{clear-key-returns}
 pub use Rattle.kindi.proofs.Correct.{clear-injective}
 -- Clear is what the noise call says: under any secret key of which it answers clear, the pair comes back.
 pub use Rattle.kindi.proofs.Correct.{noise-clear}
--- The same of the running calls, whose contracts say that they answer so.
-pub use Rattle.kindi.proofs.Called.{decrypt-call-iff, decaps-call-iff, clear-call-returns}
 -- The examples of 01.
 pub use Rattle.kindi.proofs.Examples.{examples}

@@ -1,6 +1,7 @@
 -- KINDI as 01 fixes it: what the contracts of the scheme say.
 pub mod Both
 pub mod Params
+pub mod Lengths
 pub mod Streams
 pub mod Keys
 pub mod Encrypt

@@ -119,10 +119,9 @@ pub record WellFormed (P : Params) : Type 0 where
   pub vector : P .l * P .n ≤ 1536
   pub cipher-fits : ciphertextLength P ≤ 3584
   pub padded-fits : paddedLength P ≤ 1024
-  -- what keeps a product of the noise within 16 bits, and its sums within 32
+  -- with n and ℓ as above, what keeps every sum of the noise within 32 bits
   pub small-secrets : P .p ≤ 64
   pub few-dropped : P .t ≤ 6
-  pub noise-words : P .n * (P .p * (2 ^ (P .t - 1) + P .p + 2 ^ P .t)) < 2 ^ 15
   pub some-rate : 0 < P .rate
   pub rate-fits : P .rate ≤ 200
   pub seed-fits : P .seed ≤ 512

@@ -7,14 +7,18 @@ use native.Mathlib.Numerals.{add-one}
 use native.Mathlib.Omega.{arith}
 use borrow.Author.Tests.{lt-ltb, le-ltb, ltb-true, ltb-false, ne-eqb}
 use lib.Dec.{eqb, ltb}
-use lib.ListN.{length, take, set, length-append}
-use lib.Seq.{take-suc-set}
-use Rattle.keccak.specs.Lists.{concatMap}
-use Rattle.keccak.proofs.Parts.{patched, take-patched, concatMap-append}
+use lib.ListN.{length, take, drop, set, length-append}
+use lib.Seq.{take-suc-set, drop-set-lt, drop-drop}
+use Rattle.keccak.specs.Lists.{concatMap, patched}
+use Rattle.keccak.proofs.Parts.{take-patched, drop-patched, concatMap-append}
 use Rattle.hex.specs.Digits.{digit, byteDigits, hexadecimal}
 use Rattle.lines.specs.Line.{Written, decimalIn, decimal, fields, kindField, outputField, line, endLine, feeds}
 
 -- ---- writing
+
+-- Lists that are the same from a place on are so from any later place on.
+same-behind : (xs ys : List ℕ) (n m : ℕ) → drop n xs ≡ drop n ys → drop (n + m) xs ≡ drop (n + m) ys
+same-behind xs ys n m e = sym (drop-drop m n xs) ∙ ap (drop m) e ∙ drop-drop m n ys
 
 -- One text after another.
 pub written-then : {entry : List ℕ} {at : ℕ} {first : List ℕ} {n : ℕ} {between second : List ℕ} {next : ℕ} {exit : List ℕ}
@@ -23,6 +27,7 @@ written-then {entry} {at} {first} {n} {between} {second} a b =
     record {
       next-is = b .next-is ∙ ap (λ (m : ℕ). m + length second) (a .next-is) ∙ simp length-append (omega arith);
       stands = b .stands ∙ ap (λ (l : List ℕ). l ++ second) (a .stands) ∙ append-assoc (take at entry) first second;
+      behind = b .behind ∙ rw (b .next-is) (same-behind between entry n (length second) (a .behind));
     }
 
 -- A text under another description.
@@ -32,14 +37,19 @@ written-as e w = rw e at w
 
 -- One byte.
 pub written-byte : (entry : List ℕ) (at b : ℕ) → at < length entry → Written entry at (b ∷ []) (at + 1) (set entry at b)
-written-byte entry at b h = record { next-is = refl; stands = rw add-one (take-suc-set entry at b h) }
+written-byte entry at b h =
+    record { next-is = refl; stands = rw add-one (take-suc-set entry at b h); behind = drop-set-lt (at + 1) entry at b (omega arith) }
 
 -- A part from `at` to an end that has come back.
 written-to : (entry text : List ℕ) (at k : ℕ) → length text ≡ k → at + k ≤ length entry
     → Written entry at text (at + k) (patched at (at + k - at) text entry)
 written-to entry text at k e h =
     let width : at + k - at ≡ k = omega arith in
-    record { next-is = rw e refl; stands = rw width (take-patched at k text entry e h) }
+    record {
+      next-is = rw e refl;
+      stands = rw width (take-patched at k text entry e h);
+      behind = rw width (drop-patched at k text entry e h);
+    }
 
 -- ---- decimal
 

@@ -4,7 +4,7 @@ use mathlib.Core.Bool.{Bool, cond}
 use mathlib.Core.List.{List, [], _∷_, _++_}
 use Prim.Native.Nat.{ℕ, zero, suc, _+_, _/_, _%_}
 use lib.Dec.{eqb, ltb}
-use lib.ListN.{length, take}
+use lib.ListN.{length, take, drop}
 use Rattle.hex.specs.Digits.{hexadecimal}
 
 -- A number in decimal, in at most so many places.
@@ -45,7 +45,8 @@ unfoldable pub feeds : List ℕ → ℕ
 feeds [] = 0
 feeds (x ∷ xs) = cond (eqb x 10) (suc (feeds xs)) (feeds xs)
 
--- A text was written from a place on: the place after it, and what stands before that place.
+-- A text was written from a place on: the place after it, and what stands before that place and behind it.
 pub record Written (entry : List ℕ) (at : ℕ) (text : List ℕ) (next : ℕ) (exit : List ℕ) : Type 0 where
   pub next-is : next ≡ at + length text
   pub stands : take next exit ≡ take at entry ++ text
+  pub behind : drop next exit ≡ drop next entry

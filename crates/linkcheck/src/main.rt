@@ -5,10 +5,10 @@
 use libc::STDIN_FILENO;
 use libc::STDOUT_FILENO;
 ghost use mathlib.Core.Path.{_≡_};
-ghost use Prim.Native.Nat.{_+_, _≤_};
+ghost use Prim.Native.Nat.{_≤_};
 ghost use lib.ListN.{length};
 ghost use Rattle.records.specs.Steps.{lineRoom};
-ghost use Rattle.linkcheck.specs.Turns.{Places, Flushed, Filled, Ready, AnswerRoom, Answered};
+ghost use Rattle.linkcheck.specs.Turns.{Places, flushed, RoomMade, Filled, Ready, Wiped, AnswerRoom, Answered};
 
 // The room that the longest line takes, `lineRoom`.
 const LINE: usize = 18518;
@@ -38,7 +38,7 @@ fn second_part() -> [u8; 5120]
 // Writes what the output has.
 fn flush(s: State, out: &[u8]) -> State
     requires { ⌜ s .at ≤ length (now out) ⌝ }
-    ensures { λ r. ⌜ Flushed s r ⌝ }
+    ensures { λ r. ⌜ r ≡ flushed s (r .ended) ⌝ }
 {
     let at = s.at;
     let written = io::write_all(STDOUT_FILENO, &out[..at]);
@@ -84,7 +84,7 @@ fn fill(s: State, input: &mut [u8]) -> State
 // Sees to it that the output has room for a line.
 fn make_room(s: State, out: &[u8]) -> State
     requires { ⌜ (s .at ≤ length (now out)) × (lineRoom ≤ length (now out)) ⌝ }
-    ensures { λ r. ⌜ (r .from ≡ s .from) × (r .to ≡ s .to) × (r .more ≡ s .more) × (r .done ≡ s .done) × (r .at + lineRoom ≤ length (now (out .entry))) ⌝ }
+    ensures { λ r. ⌜ RoomMade s (now (out .entry)) r ⌝ }
 {
     let left = out.len() - s.at;
     if LINE <= left {
@@ -121,7 +121,8 @@ fn answer(
     work: &mut [u8],
 ) -> State
     requires { ⌜ AnswerRoom s (now input) (now out) (now first) (now second) (now work) ⌝ }
-    ensures { λ r. ⌜ Answered s (now (input .entry)) (now (out .entry)) r (now (out .exit)) ⌝ }
+    ensures { λ r. ⌜ Answered s (now (input .entry)) (now (out .entry)) (now (first .entry)) (now (second .entry)) (now (work .entry))
+        r (now (out .exit)) (now (first .exit)) (now (second .exit)) (now (work .exit)) ⌝ }
 {
     let from = s.from;
     let to = s.to;
@@ -140,6 +141,7 @@ fn answer(
 fn run(input: &mut [u8], out: &mut [u8], first: &mut [u8], second: &mut [u8], work: &mut [u8])
     requires { ⌜ (65536 ≡ length (now input)) × (65536 ≡ length (now out)) × (4096 ≡ length (now first))
         × (5120 ≡ length (now second)) × (65536 ≡ length (now work)) ⌝ }
+    ensures { λ _. ⌜ Wiped (now (work .entry)) (now (work .exit)) ⌝ }
 {
     let mut s = State {
         from: 0,

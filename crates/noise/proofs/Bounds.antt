@@ -89,12 +89,13 @@ key-noise-sized P W stream secrets b i x h =
       dropped,
     )
 
--- Neither bound is zero.
-pub some-small : (P : Params) → WellFormed P → 0 < P .p
-some-small P W = omega (arith, W .narrow, pow-pos (width P))
-
-pub some-noise : (P : Params) → WellFormed P → 0 < noiseMost P
-some-noise P W = omega (arith, some-small P W)
+-- So no product of the noise is larger than 2^23.
+pub product-most : (P : Params) → WellFormed P → P .n * (P .p * noiseMost P) ≤ 2 ^ 23
+product-most P W =
+    let each : noiseMost P ≤ 192 = omega (arith, half-power P W, W .small-secrets, low-power P W) in
+    let term : P .p * noiseMost P ≤ 64 * 192 = mul-le-mul (W .small-secrets) each in
+    let all : P .n * (P .p * noiseMost P) ≤ 512 * (64 * 192) = mul-le-mul (W .short) term in
+    omega (arith, all)
 
 -- ---- words
 

@@ -3,7 +3,7 @@
 use mathlib.Core.Path.{_≡_, sym, ap, ap₂, _∙_}
 use mathlib.Core.List.{List}
 use Prim.Native.Nat.{ℕ, _+_, _*_, _^_, _≤_, _<_}
-use native.Mathlib.Nat.{mul-le-mul, mul-comm}
+use native.Mathlib.Nat.{le-refl, mul-le-mul, mul-comm}
 use native.Mathlib.Numerals.{add-one}
 use native.Mathlib.Omega.{arith}
 use lib.IntN.{ℤ, pos, negℤ, natAbs, _+ℤ_, +ℤ-idr, +ℤ-assoc}
@@ -13,12 +13,11 @@ use Rattle.keccak.proofs.Entries.{tabulate-at, length-tabulate}
 use Rattle.bits.proofs.Filling.{tabulate-ext, tabulate-entries}
 use Rattle.ring.specs.Integers.{largest}
 use Rattle.ring.specs.Poly.{Poly, sum, mul, plus, minus, dot, ofInts}
-use Rattle.ring.specs.Coefficients.{withSignedProduct}
+use Rattle.ring.specs.Coefficients.{Summable, withSignedProduct}
 use Rattle.ring.proofs.Integers.{natAbs-add, natAbs-neg}
 use Rattle.ring.proofs.Sums.{natAbs-sum}
 use Rattle.ring.proofs.Ring.{mul-ext, natAbs-mul-poly}
 use Rattle.ring.proofs.Sizes.{largest-le, le-largest, largest-zeros}
-use Rattle.signed_product.specs.Toeplitz.{Factors}
 
 -- acc with the first i products of two vectors added.
 abbrev pub partial : ℕ → List ℤ → (ℕ → Poly) → (ℕ → Poly) → ℕ → List ℤ
@@ -69,39 +68,30 @@ unfolding dot
 dot-size i n B C F S k hF hS h =
     rw (mul-comm C B) (natAbs-sum i (n * (B * C)) (λ j. mul n (F j) (S j) k) (λ j _. natAbs-mul-poly n B C (F j) (S j) (hF j) (hS j) h))
 
--- What is there after at most 8 of them, where each is below 2^15.
-partial-size : (n B C : ℕ) (acc : List ℤ) (F S : ℕ → Poly) (i : ℕ) → i ≤ 8 → n * (C * B) < 2 ^ 15
-    → ((j : ℕ) → Sized n B (F j)) → ((j : ℕ) → Sized n C (S j)) → largest (partial n acc F S i) ≤ largest acc + 262144
+-- What is there after at most 8 of them, where none is above 2^23.
+partial-size : (n B C : ℕ) (acc : List ℤ) (F S : ℕ → Poly) (i : ℕ) → i ≤ 8 → n * (C * B) ≤ 2 ^ 23
+    → ((j : ℕ) → Sized n B (F j)) → ((j : ℕ) → Sized n C (S j)) → largest (partial n acc F S i) ≤ largest acc + 2 ^ 26
 partial-size n B C acc F S i few small hF hS =
-    let each : n * (C * B) ≤ 32768 = omega (arith, small) in
-    let most : i * (n * (C * B)) ≤ 8 * 32768 = mul-le-mul few each in
-    largest-table n (largest acc + 262144) (plus (ofInts acc) (dot i n F S))
+    let most : i * (n * (C * B)) ≤ 8 * 2 ^ 23 = mul-le-mul few small in
+    largest-table n (largest acc + 2 ^ 26) (plus (ofInts acc) (dot i n F S))
     (λ k h. omega (arith, natAbs-add (ofInts acc k) (dot i n F S k), le-largest acc k, dot-size i n B C F S k hF hS h, most))
 
 -- There is room for one more.
-pub factors : (l n B C : ℕ) (acc₀ : List ℤ) (F S : ℕ → Poly) (i : ℕ) {acc x s : List ℤ} → i < l → l ≤ 8 → 0 < n → n ≤ 512 → 0 < B → 0 < C
-    → n * (C * B) < 2 ^ 15 → largest acc₀ ≤ 2 ^ 30 → ((j : ℕ) → Sized n B (F j)) → ((j : ℕ) → Sized n C (S j))
-    → acc ≡ partial n acc₀ F S i → x ≡ tabulate n (F i) → s ≡ tabulate n (S i) → Factors acc x s
-factors l n B C acc₀ F S i {acc} {x} {s} turn few some short someB someC small start hF hS e ex es =
+pub summable : (l n B C : ℕ) (acc₀ : List ℤ) (F S : ℕ → Poly) (i : ℕ) {acc x s : List ℤ} → i < l → l ≤ 8 → n ≤ 512 → C ≤ 64
+    → n * (C * B) ≤ 2 ^ 23 → largest acc₀ ≤ 2 ^ 30 → ((j : ℕ) → Sized n B (F j)) → ((j : ℕ) → Sized n C (S j))
+    → acc ≡ partial n acc₀ F S i → x ≡ tabulate n (F i) → s ≡ tabulate n (S i) → Summable acc x s
+summable l n B C acc₀ F S i {acc} {x} {s} turn few short narrow small start hF hS e ex es =
     let long : length acc ≡ n = ap length e ∙ length-tabulate n (plus (ofInts acc₀) (dot i n F S)) in
-    let lx : length x ≡ n = ap length ex ∙ length-tabulate n (F i) in
-    let ls : length s ≡ n = ap length es ∙ length-tabulate n (S i) in
-    let before : largest acc ≤ largest acc₀ + 262144 = rw e (partial-size n B C acc₀ F S i (omega arith) small hF hS) in
+    let first-most : largest x ≤ B = rw ex (largest-table n B (F i) (hF i)) in
+    let second-most : largest s ≤ C = rw es (largest-table n C (S i) (hS i)) in
+    let before : largest acc ≤ largest acc₀ + 2 ^ 26 = rw e (partial-size n B C acc₀ F S i (omega arith) small hF hS) in
+    let more : n * (largest x * largest s) ≤ n * (B * C) = mul-le-mul (le-refl n) (mul-le-mul first-most second-most) in
     record {
-      first = lx ∙ sym long;
-      second = ls ∙ sym long;
-      some = omega (arith, long);
-      short = omega (arith, long);
-      room = omega (arith, before, start);
-      bounded = record {
-        first = C;
-        second = B;
-        some-first = someC;
-        some-second = someB;
-        first-most = rw es (largest-table n C (S i) (hS i));
-        second-most = rw ex (largest-table n B (F i) (hF i));
-        small = rw long small;
-      };
+      first = ap length ex ∙ length-tabulate n (F i) ∙ sym long;
+      second = ap length es ∙ length-tabulate n (S i) ∙ sym long;
+      short = rw long short;
+      negatable = omega (arith, second-most);
+      small = rw long (omega (arith, before, start, more, ap (λ (m : ℕ). n * m) (mul-comm B C), small));
     }
 
 -- ---- the noise
@@ -113,8 +103,8 @@ rest-size n x acc e =
     (λ k h. omega (arith, natAbs-add (ofInts x k) (negℤ (ofInts acc k)), natAbs-neg (ofInts acc k), le-largest x k, le-largest acc k)))
 
 -- Products added to zeros.
-pub errors-size : (l n B C : ℕ) (F S : ℕ → Poly) {zeros acc : List ℤ} → zeros ≡ replicate n (pos 0) → l ≤ 8 → n * (C * B) < 2 ^ 15
-    → ((j : ℕ) → Sized n B (F j)) → ((j : ℕ) → Sized n C (S j)) → acc ≡ partial n zeros F S l → largest acc ≤ 262144
+pub errors-size : (l n B C : ℕ) (F S : ℕ → Poly) {zeros acc : List ℤ} → zeros ≡ replicate n (pos 0) → l ≤ 8 → n * (C * B) ≤ 2 ^ 23
+    → ((j : ℕ) → Sized n B (F j)) → ((j : ℕ) → Sized n C (S j)) → acc ≡ partial n zeros F S l → largest acc ≤ 2 ^ 26
 errors-size l n B C F S {zeros} {acc} ez few small hF hS e =
     let none : largest zeros ≡ 0 = ap largest ez ∙ largest-zeros n in
     rw e (omega (arith, partial-size n B C zeros F S l few small hF hS))

@@ -9,11 +9,11 @@ use lib.IntN.{ℤ, pos, negℤ, _+ℤ_, _-ℤ_, +ℤ-idl, +ℤ-comm, +ℤ-assoc}
 use lib.ListN.{length, take, drop, replicate, length-take, length-append}
 use lib.Pow.{pow-pos}
 use lib.Seq.{length-take-le, take-at, take-add, drop-at, drop-drop}
-use Rattle.keccak.specs.Lists.{tabulate}
+use Rattle.keccak.specs.Lists.{tabulate, patched}
 use Rattle.keccak.specs.Strings.{xorInto}
 use Rattle.hash.specs.Shake.{shake}
 use Rattle.keccak.proofs.Entries.{length-tabulate}
-use Rattle.keccak.proofs.Parts.{patched, length-patched, take-rest}
+use Rattle.keccak.proofs.Parts.{length-patched, take-rest}
 use Rattle.hash.proofs.Laws.{length-shake}
 use Rattle.bits.proofs.Filling.{tabulate-ext, tabulate-constant}
 use Rattle.ring.specs.Integers.{residue}

@@ -1,11 +1,11 @@
 // The noise of an encryption (01, "Noise"): b in full and whether a key stores it, then how large the noise of coins and a
 // message is.
 ghost use mathlib.Core.Path.{_≡_};
+ghost use Rattle.keccak.specs.Lists.{patched};
 ghost use Rattle.kindi.specs.Params.{WellFormed, lowLength, paddedLength, coinsStreamLength};
 ghost use Rattle.kindi.specs.Streams.{coinsStream};
 ghost use Rattle.kindi.specs.Encrypt.{masked};
 ghost use Rattle.kindi.specs.Answers.{agrees, clearUnder, largestUnder};
-ghost use Rattle.keccak.proofs.Parts.{patched};
 ghost use Prim.Native.Nat.{_<_, _≤_};
 ghost use lib.ListN.{length};
 ghost use Rattle.noise.specs.Rooms.{valueOf, Kept, ValueRoom, MeasureRoom};

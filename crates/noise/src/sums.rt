@@ -14,7 +14,6 @@ ghost use Rattle.noise.specs.Terms.{keyNoiseIn, noiseIn, noisesFrom};
 use crate::Measured;
 use crate::factors;
 use kindi::Params;
-use signed_product;
 use vectors::lengths;
 
 fn factor() -> [i16; 512] {
@@ -44,7 +43,7 @@ fn add_errors(
     while j < p.l {
         factors::small(p, masked, j, x);
         factors::small(p, secrets, j, s);
-        signed_product::multiply_add(acc, x, s);
+        signed::multiply_add(acc, x, s);
         j += 1;
     }
 }
@@ -90,7 +89,7 @@ fn add_keys(
     while i < p.l {
         factors::key_noise(p, stream, secrets, b, i, x);
         factors::ephemeral(p, coins, high, rest, i, s);
-        signed_product::multiply_add(acc, x, s);
+        signed::multiply_add(acc, x, s);
         i += 1;
     }
 }

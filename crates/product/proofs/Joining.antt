@@ -7,8 +7,9 @@ use native.Mathlib.Omega.{arith}
 use lib.IntN.{pos, _+ℤ_, _-ℤ_, +ℤ-idl}
 use lib.ListN.{length, getD, take, drop, replicate, length-drop, length-append, length-replicate}
 use lib.Seq.{getD-take, getD-drop, length-take-le, length-front, take-append-seam, drop-append-seam}
+use Rattle.keccak.specs.Lists.{patched}
 use Rattle.keccak.proofs.Entries.{tabulate-add}
-use Rattle.keccak.proofs.Parts.{patched, patched-rest, take-rest}
+use Rattle.keccak.proofs.Parts.{patched-rest, take-rest}
 use Rattle.ring.specs.Integers.{Cong, residue}
 use Rattle.ring.specs.Poly.{Poly, plus, minus, ofNats, residues}
 use Rattle.ring.specs.Coefficients.{added}
@@ -50,14 +51,14 @@ take-at : (h : ℕ) (xs : List ℕ) {k : ℕ} → k < h → ofNats (take h xs) k
 take-at h xs {k} hk = ap pos (getD-take h xs k 0 hk)
 
 -- The first half, and the second, of a list of two.
-pub first-of : {A : Type 0} (h : ℕ) (ys zs : List A) → length ys ≡ h → take h (ys ++ zs) ≡ ys
+first-of : {A : Type 0} (h : ℕ) (ys zs : List A) → length ys ≡ h → take h (ys ++ zs) ≡ ys
 first-of h ys zs l = ap (λ (m : ℕ). take m (ys ++ zs)) (sym l) ∙ take-append-seam ys zs
 
 pub second-of : {A : Type 0} (h : ℕ) (ys zs : List A) → length ys ≡ h → drop h (ys ++ zs) ≡ zs
 second-of h ys zs l = ap (λ (m : ℕ). drop m (ys ++ zs)) (sym l) ∙ drop-append-seam ys zs
 
 -- Both halves are replaced, one after the other.
-pub replaced : {A : Type 0} (h : ℕ) (xs ys zs : List A) → length ys ≡ h → putRest h zs (ys ++ drop h xs) ≡ ys ++ zs
+replaced : {A : Type 0} (h : ℕ) (xs ys zs : List A) → length ys ≡ h → putRest h zs (ys ++ drop h xs) ≡ ys ++ zs
 replaced {A} h xs ys zs l = patched-rest h zs (ys ++ drop h xs) ∙ ap (λ (l : List A). l ++ zs) (first-of h ys (drop h xs) l)
 
 pub replaced-long : {A : Type 0} (h : ℕ) (xs ys zs : List A) → length xs ≡ h + h → length ys ≡ length (take h xs)

@@ -1,44 +1,37 @@
 -- Each kind: its record gives what its call leaves, where the checks before the call fail and where they pass. Assumes nothing.
-use mathlib.Core.Path.{_≡_, refl, sym, ap, ap₂, _∙_}
+use mathlib.Core.Path.{_≡_, refl, ap, _∙_}
 use mathlib.Core.Bool.{true}
-use mathlib.Core.List.{List, _++_, append-nil, append-assoc}
+use mathlib.Core.List.{List, _++_}
 use Prim.Native.Nat.{ℕ, _+_, _-_, _*_, _≤_}
 use native.Mathlib.Omega.{arith}
-use borrow.Author.Tests.{eq-eqb, ne-eqb}
+use borrow.Author.Tests.{ne-eqb}
 use lib.Dec.{ltb, lit<}
 use lib.ListN.{length, take, drop, replicate, length-append}
-use lib.Seq.{take-at, length-take-le, take-append-seam}
+use lib.Seq.{length-take-le}
 use Rattle.keccak.proofs.Parts.{take-rest}
 use Rattle.kindi.specs.declared.Params.{Params}
 use Rattle.kindi.specs.Params.{Parameters, publicLength, secretLength, ciphertextLength, paddedLength, keygenWork, encryptWork, decryptWork}
-use Rattle.kindi.specs.Answers.{Answer, refused, answered, differs, Plain, keygen, encrypt, encaps, recoveredCoins, decrypt, decaps}
-use Rattle.kindi.specs.Calls.{number, output, returned, messageOutput, inSet}
+use Rattle.kindi.specs.Answers.{Answer, refused, answered, differs, Keys, Plain, Shared, keygen, encrypt, encaps, recoveredCoins, decrypt, decaps}
+use Rattle.kindi.specs.Calls.{number, output, returned, messageOutput}
 use Rattle.kindi.proofs.Called.{keygen-called, encrypt-called, encaps-called, decrypt-called, decaps-called}
-use Rattle.calls.proofs.Ends.{given}
 use Rattle.encryption_calls.specs.Exits.{KeygenExit, EncryptExit, EncapsExit}
 use Rattle.decryption_calls.specs.Exits.{DecryptExit, DecapsExit}
 use Rattle.record_calls.specs.declared.Outcome.{Outcome}
-use Rattle.record_calls.specs.Outputs.{OutcomeOf, Gives}
-use Rattle.record_calls.specs.Bodies.{keygenBody, encryptBody, decryptBody, encapsBody, decapsBody, kindBody, recordAnswer}
-use Rattle.record_calls.proofs.Outcomes.{Proper, proper-answered, proper-check, proper-then, proper-plain, gives, gives-value}
-use Rattle.record_calls.proofs.Outcomes.{early, early-gives, Ready, ready-gives}
+use Rattle.record_calls.specs.Bodies.{onePart, twoParts, keygenBody, encryptBody, decryptBody, encapsBody, decapsBody, kindBody}
+use Rattle.record_calls.specs.Bodies.{bodyBytes, wrongLength, recordParts}
+use Rattle.record_calls.specs.Outputs.{OutcomeOf, workBytes, recordWork, AnswerExit}
+use Rattle.record_calls.proofs.Outcomes.{Proper, proper-answered, proper-check, proper-then, proper-plain}
+use Rattle.record_calls.proofs.Outcomes.{Lent, lent-length, lent-after, no-zeros, untouched, wiped-front, gives, early, early-gives, Ready, ready-gives}
 
--- ---- an output's parts
-
--- A part lent at the front of a buffer holds, where the call answers v, its value of v.
-front : {A : Type 0} {call answer : Answer A} (value : A → List ℕ) (a : ℕ) (buffer : List ℕ) {part : List ℕ} {v : A}
-    → a ≤ length buffer → length part ≡ length (take a buffer) → part ≡ output call value (take a buffer)
-    → call ≡ answer → answer ≡ answered v → take a (part ++ drop a buffer) ≡ value v
-front value a buffer {part} fits kept is same e =
-    take-at part (drop a buffer) a (kept ∙ length-take-le a buffer fits) ∙ is ∙ sym (given value (take a buffer) (same ∙ e))
+-- ---- lent parts
 
 -- The front of a buffer, lent at the length that the call asks for.
-lent : (a : ℕ) (buffer : List ℕ) {n : ℕ} → a ≡ n → a ≤ length buffer → length (take a buffer) ≡ n
-lent a buffer e fits = length-take-le a buffer fits ∙ e
+asked : (a : ℕ) (buffer : List ℕ) {n : ℕ} → a ≡ n → a ≤ length buffer → length (take a buffer) ≡ n
+asked a buffer e fits = length-take-le a buffer fits ∙ e
 
 -- A work area that is lent so is long enough.
-lent-enough : (a : ℕ) (buffer : List ℕ) {n : ℕ} → a ≡ n → a ≤ length buffer → n ≤ length (take a buffer)
-lent-enough a buffer e fits = omega (arith, lent a buffer e fits)
+enough : (a : ℕ) (buffer : List ℕ) {n : ℕ} → a ≡ n → a ≤ length buffer → n ≤ length (take a buffer)
+enough a buffer e fits = omega (arith, asked a buffer e fits)
 
 -- ---- 1, keygen
 
@@ -48,11 +41,11 @@ unfolding keygen
 keygen-proper P μ γ z = search (proper-check, proper-answered, lit<) depth 9
 
 -- A check before the call fails: the record is refused with its status.
-pub keygen-early : (body : List ℕ) {set status m n : ℕ} {P : Params} {first second : List ℕ} {r : Outcome}
+pub keygen-early : (body : List ℕ) {set status m n : ℕ} {P : Params} {first second work : List ℕ} {r : Outcome}
     → Parameters set P → status ≡ early set (differs (length body) (3 * P .seed)) → (status ≡ 0 → ⊥) → OutcomeOf status m n r
-    → Gives (inSet set (λ Q. keygenBody Q body)) r first second
-unfolding keygenBody
-keygen-early body p is wrong o = early-gives differs (λ Q. 3 * Q .seed) _ body p is wrong o
+    → AnswerExit 1 set body first second work r first second work
+unfolding wrongLength bodyBytes
+keygen-early body p is wrong o = early-gives 1 body p is wrong o
 
 -- The checks pass: the record gives what the call leaves; a, b and w are the lengths of the keys and of the work area.
 pub keygen-gives : {set a b w status : ℕ} {P : Params} {body first second work pk' sk' work' : List ℕ} {r : Outcome}
@@ -61,8 +54,8 @@ pub keygen-gives : {set a b w status : ℕ} {P : Params} {body first second work
     → KeygenExit set (take (P .seed) body) (take (2 * P .seed - P .seed) (drop (P .seed) body))
     (take (length body - 2 * P .seed) (drop (2 * P .seed) body)) (take a first) (take b second) (take w work) status pk' sk' work'
     → OutcomeOf status a b r → length pk' ≡ length (take a first) → length sk' ≡ length (take b second)
-    → Gives (inSet set (λ Q. keygenBody Q body)) r (pk' ++ drop a first) (sk' ++ drop b second)
-unfolding keygenBody
+    → AnswerExit 1 set body first second work r (pk' ++ drop a first) (sk' ++ drop b second) (work' ++ drop w work)
+unfolding keygenBody kindBody wrongLength bodyBytes workBytes
 keygen-gives {set} {a} {b} {w} {P = P} {body} {first} {second} {work} {pk'} {sk'} ok ea eb ew exit o kept-pk kept-sk =
     let μ = take (P .seed) body in
     let γ = take (P .seed) (drop (P .seed) body) in
@@ -72,13 +65,16 @@ keygen-gives {set} {a} {b} {w} {P = P} {body} {first} {second} {work} {pk'} {sk'
     let fw : w ≤ length work = omega arith in
     let once : 2 * P .seed - P .seed ≡ P .seed = omega arith in
     let left = rw (once, take-rest (2 * P .seed) body) at exit in
-    let called = (rw (← ok .are) at (keygen-called set (ok .there))) μ γ z _ _ _ (lent a first ea fa) (lent b second eb fb)
-    (lent-enough w work ew fw) in
-    ready-gives differs (λ Q. 3 * Q .seed) _ ok
-    (gives (keygen P true μ γ z) (λ keys. keys .publicKey ++ keys .secretKey) (keygen-proper P μ γ z)
-    (pk' ++ drop a first) (sk' ++ drop b second) (left .returned ∙ ap number called) o (omega arith) (omega arith)
-    (λ v e. ap₂ _++_ (front (λ keys. keys .publicKey) a first fa kept-pk (left .public) called e)
-    (front (λ keys. keys .secretKey) b second fb kept-sk (left .secret) called e)))
+    let called = (rw (← ok .are) at (keygen-called set (ok .there))) μ γ z _ _ _ (asked a first ea fa) (asked b second eb fb)
+    (enough w work ew fw) in
+    let pk : Lent _ (λ (keys : Keys). keys .publicKey) a first pk' = record { fits = fa; kept = kept-pk; is = left .public } in
+    let sk : Lent _ (λ (keys : Keys). keys .secretKey) b second sk' = record { fits = fb; kept = kept-sk; is = left .secret } in
+    ready-gives 1 ok refl
+    (gives (keygen P true μ γ z) (λ keys. twoParts (keys .publicKey) (keys .secretKey)) (keygen-proper P μ γ z)
+    (left .returned ∙ ap number called) o (omega arith) (omega arith)
+    (λ v e. lent-length pk (called ∙ e)) (λ v e. lent-length sk (called ∙ e))
+    (lent-after pk _ called) (lent-after sk _ called ∙ no-zeros _ _ second)
+    (wiped-front set w _ work (ok .there) ew fw (rw (← ok .are) at (left .wiped))))
 
 -- ---- 2, encrypt
 
@@ -88,11 +84,11 @@ unfolding encrypt
 encrypt-proper P pk coins message = search (proper-check, proper-answered, lit<) depth 9
 
 -- A check before the call fails; s is the length of the public key.
-pub encrypt-early : (body : List ℕ) {set s status m n : ℕ} {P : Params} {first second : List ℕ} {r : Outcome}
+pub encrypt-early : (body : List ℕ) {set s status m n : ℕ} {P : Params} {first second work : List ℕ} {r : Outcome}
     → Parameters set P → s ≡ publicLength P → status ≡ early set (ltb (length body) (s + P .coins)) → (status ≡ 0 → ⊥)
-    → OutcomeOf status m n r → Gives (inSet set (λ Q. encryptBody Q body)) r first second
-unfolding encryptBody
-encrypt-early body p es is wrong o = early-gives ltb (λ Q. publicLength Q + Q .coins) _ body p (rw es at is) wrong o
+    → OutcomeOf status m n r → AnswerExit 2 set body first second work r first second work
+unfolding wrongLength bodyBytes
+encrypt-early body p es is wrong o = early-gives 2 body p (rw es at is) wrong o
 
 -- The checks pass: the record gives what the call leaves; s, a and w are the lengths of the public key, the ciphertext and the work area.
 pub encrypt-gives : {set s a w status : ℕ} {P : Params} {body first second work ct' work' : List ℕ} {r : Outcome}
@@ -101,8 +97,8 @@ pub encrypt-gives : {set s a w status : ℕ} {P : Params} {body first second wor
     → EncryptExit set (take s body) (take (s + P .coins - s) (drop s body))
     (take (length body - (s + P .coins)) (drop (s + P .coins) body)) (take a first) (take w work) status ct' work'
     → OutcomeOf status a 0 r → length ct' ≡ length (take a first)
-    → Gives (inSet set (λ Q. encryptBody Q body)) r (ct' ++ drop a first) second
-unfolding encryptBody
+    → AnswerExit 2 set body first second work r (ct' ++ drop a first) second (work' ++ drop w work)
+unfolding encryptBody kindBody wrongLength bodyBytes workBytes
 encrypt-gives {set} {s} {a} {w} {P = P} {body} {first} {second} {work} {ct'} ok es ea ew exit o kept-ct =
     let pk = take (publicLength P) body in
     let coins = take (P .coins) (drop (publicLength P) body) in
@@ -111,12 +107,14 @@ encrypt-gives {set} {s} {a} {w} {P = P} {body} {first} {second} {work} {ct'} ok 
     let fw : w ≤ length work = omega arith in
     let once : publicLength P + P .coins - publicLength P ≡ P .coins = omega arith in
     let left = rw (es, once, take-rest (publicLength P + P .coins) body) at exit in
-    let called = (rw (← ok .are) at (encrypt-called set (ok .there))) pk coins message _ _ (lent a first ea fa)
-    (lent-enough w work ew fw) in
-    ready-gives ltb (λ Q. publicLength Q + Q .coins) _ (rw es at ok)
-    (gives-value (encrypt P true pk coins message) (encrypt-proper P pk coins message) (ct' ++ drop a first) second
+    let called = (rw (← ok .are) at (encrypt-called set (ok .there))) pk coins message _ _ (asked a first ea fa)
+    (enough w work ew fw) in
+    let ct : Lent _ (λ c. c) a first ct' = record { fits = fa; kept = kept-ct; is = left .ciphertext } in
+    ready-gives 2 (rw es at ok) refl
+    (gives (encrypt P true pk coins message) onePart (encrypt-proper P pk coins message)
     (left .returned ∙ ap number called) o (omega arith) (omega arith)
-    (λ v e. append-nil _ ∙ front (λ c. c) a first fa kept-ct (left .ciphertext) called e))
+    (λ v e. lent-length ct (called ∙ e)) (λ v e. refl) (lent-after ct _ called) (untouched _ second)
+    (wiped-front set w _ work (ok .there) ew fw (rw (← ok .are) at (left .wiped))))
 
 -- ---- 3, decrypt
 
@@ -134,22 +132,19 @@ message-fits (refused n) room m entry is out h = omega (arith, is)
 message-fits (answered v) room m entry is out h =
     omega (arith, ap length out, length-append (v .message) (replicate (room - length (v .message)) 0))
 
--- It stands at the front, where the call answers v.
-message-front : {call answer : Answer Plain} (room b : ℕ) (entry second : List ℕ) {exit : List ℕ} {len : ℕ} {v : Plain}
-    → len ≡ returned call (λ opened. length (opened .message))
-    → exit ≡ output call (λ opened. messageOutput room (opened .message)) entry → call ≡ answer → answer ≡ answered v
-    → take len (exit ++ drop b second) ≡ v .message
-unfolding returned output messageOutput
-message-front room b entry second is out same e = rw (is, out, same, e, append-assoc) (take-append-seam _ _)
+-- It is the message's, where the call answers v.
+message-length : {call : Answer Plain} {len : ℕ} {v : Plain} → len ≡ returned call (λ opened. length (opened .message))
+    → call ≡ answered v → len ≡ length (v .message)
+unfolding returned
+message-length is same = is ∙ rw same refl
 
 -- A check before the call fails; s and t are the lengths of the secret key and of the ciphertext.
-pub decrypt-early : (body : List ℕ) {set s t status m n : ℕ} {P : Params} {first second : List ℕ} {r : Outcome}
+pub decrypt-early : (body : List ℕ) {set s t status m n : ℕ} {P : Params} {first second work : List ℕ} {r : Outcome}
     → Parameters set P → s ≡ secretLength P → t ≡ ciphertextLength P
     → status ≡ early set (differs (length body) (s + t)) → (status ≡ 0 → ⊥) → OutcomeOf status m n r
-    → Gives (inSet set (λ Q. decryptBody Q body)) r first second
-unfolding decryptBody
-decrypt-early body p es et is wrong o =
-    early-gives differs (λ Q. secretLength Q + ciphertextLength Q) _ body p (rw (es, et) at is) wrong o
+    → AnswerExit 3 set body first second work r first second work
+unfolding wrongLength bodyBytes
+decrypt-early body p es et is wrong o = early-gives 3 body p (rw (es, et) at is) wrong o
 
 -- The checks pass: the record gives what the call leaves; b is the length of the padded message, of which the message is shorter.
 pub decrypt-gives : {set s t b w status len' : ℕ} {P : Params} {body first second work coins' message' work' : List ℕ} {r : Outcome}
@@ -159,8 +154,8 @@ pub decrypt-gives : {set s t b w status len' : ℕ} {P : Params} {body first sec
     status coins' message' len' work'
     → OutcomeOf status (P .coins) len' r
     → length coins' ≡ length (take (P .coins) first) → length message' ≡ length (take (b - 1) second)
-    → Gives (inSet set (λ Q. decryptBody Q body)) r (coins' ++ drop (P .coins) first) (message' ++ drop (b - 1) second)
-unfolding decryptBody
+    → AnswerExit 3 set body first second work r (coins' ++ drop (P .coins) first) (message' ++ drop (b - 1) second) (work' ++ drop w work)
+unfolding decryptBody kindBody wrongLength bodyBytes workBytes messageOutput
 decrypt-gives {set} {s} {t} {b} {w} {P = P} {body} {first} {second} {work} {coins'} {message'} ok es et eb ew exit o kept-c kept-m =
     let sk = take (secretLength P) body in
     let ct = drop (secretLength P) body in
@@ -168,14 +163,24 @@ decrypt-gives {set} {s} {t} {b} {w} {P = P} {body} {first} {second} {work} {coin
     let fb : b - 1 ≤ length second = omega arith in
     let fw : w ≤ length work = omega arith in
     let left = rw (es, take-rest (secretLength P) body) at exit in
-    let called = (rw (← ok .are) at (decrypt-called set (ok .there))) sk ct _ _ _ (lent (P .coins) first refl fa)
-    (lent (b - 1) second (ap (λ (n : ℕ). n - 1) eb) fb) (lent-enough w work ew fw) in
-    ready-gives differs (λ Q. secretLength Q + ciphertextLength Q) _ (rw (es, et) at ok)
-    (gives (decrypt P true sk ct) (λ opened. opened .coins ++ opened .message) (decrypt-proper P sk ct)
-    (coins' ++ drop (P .coins) first) (message' ++ drop (b - 1) second) (left .number-is ∙ ap number called) o (omega arith)
-    (message-fits _ _ 5120 _ (left .length-is) (left .message-is) (omega (arith, lent (b - 1) second refl fb)))
-    (λ v e. ap₂ _++_ (front (λ opened. opened .coins) (P .coins) first fa kept-c (left .coins-are) called e)
-    (message-front _ (b - 1) _ second (left .length-is) (left .message-is) called e)))
+    let room : length (take (b - 1) second) ≡ paddedLength P - 1 = asked (b - 1) second (ap (λ (n : ℕ). n - 1) eb) fb in
+    let called = (rw (← ok .are) at (decrypt-called set (ok .there))) sk ct _ _ _ (asked (P .coins) first refl fa) room
+    (enough w work ew fw) in
+    let coins : Lent _ (λ (opened : Plain). opened .coins) (P .coins) first coins' = record { fits = fa; kept = kept-c; is = left .coins-are } in
+    let message : Lent _ (λ (opened : Plain). messageOutput (length (take (b - 1) second)) (opened .message)) (b - 1) second message' =
+    record { fits = fb; kept = kept-m; is = left .message-is } in
+    ready-gives 3 (rw (es, et) at ok) refl
+    (gives (decrypt P true sk ct)
+    (λ opened. record {
+      first = opened .coins;
+      second = opened .message;
+      zeros = paddedLength P - 1 - length (opened .message);
+    })
+    (decrypt-proper P sk ct) (left .number-is ∙ ap number called) o (omega arith)
+    (message-fits _ _ 5120 _ (left .length-is) (left .message-is) (omega (arith, kept-m, room)))
+    (λ v e. lent-length coins (called ∙ e)) (λ v e. message-length (left .length-is) (called ∙ e))
+    (lent-after coins _ called) (rw room at (lent-after message _ called))
+    (wiped-front set w _ work (ok .there) ew fw (rw (← ok .are) at (left .wiped))))
 
 -- ---- 4, encaps
 
@@ -185,11 +190,11 @@ unfolding encaps
 encaps-proper P pk coins = search (proper-check, proper-answered, lit<) depth 9
 
 -- A check before the call fails; s is the length of the public key.
-pub encaps-early : (body : List ℕ) {set s status m n : ℕ} {P : Params} {first second : List ℕ} {r : Outcome}
+pub encaps-early : (body : List ℕ) {set s status m n : ℕ} {P : Params} {first second work : List ℕ} {r : Outcome}
     → Parameters set P → s ≡ publicLength P → status ≡ early set (differs (length body) (s + P .coins)) → (status ≡ 0 → ⊥)
-    → OutcomeOf status m n r → Gives (inSet set (λ Q. encapsBody Q body)) r first second
-unfolding encapsBody
-encaps-early body p es is wrong o = early-gives differs (λ Q. publicLength Q + Q .coins) _ body p (rw es at is) wrong o
+    → OutcomeOf status m n r → AnswerExit 4 set body first second work r first second work
+unfolding wrongLength bodyBytes
+encaps-early body p es is wrong o = early-gives 4 body p (rw es at is) wrong o
 
 -- The checks pass: the record gives what the call leaves; s, b and w are the lengths of the public key, the ciphertext and the work area.
 pub encaps-gives : {set s b w status : ℕ} {P : Params} {body first second work key' ct' work' : List ℕ} {r : Outcome}
@@ -198,8 +203,8 @@ pub encaps-gives : {set s b w status : ℕ} {P : Params} {body first second work
     → EncapsExit set (take s body) (take (length body - s) (drop s body)) (take (P .coins) first) (take b second) (take w work)
     status key' ct' work'
     → OutcomeOf status (P .coins) b r → length key' ≡ length (take (P .coins) first) → length ct' ≡ length (take b second)
-    → Gives (inSet set (λ Q. encapsBody Q body)) r (key' ++ drop (P .coins) first) (ct' ++ drop b second)
-unfolding encapsBody
+    → AnswerExit 4 set body first second work r (key' ++ drop (P .coins) first) (ct' ++ drop b second) (work' ++ drop w work)
+unfolding encapsBody kindBody wrongLength bodyBytes workBytes
 encaps-gives {set} {s} {b} {w} {P = P} {body} {first} {second} {work} {key'} {ct'} ok es eb ew exit o kept-key kept-ct =
     let pk = take (publicLength P) body in
     let coins = drop (publicLength P) body in
@@ -207,13 +212,16 @@ encaps-gives {set} {s} {b} {w} {P = P} {body} {first} {second} {work} {key'} {ct
     let fb : b ≤ length second = omega arith in
     let fw : w ≤ length work = omega arith in
     let left = rw (es, take-rest (publicLength P) body) at exit in
-    let called = (rw (← ok .are) at (encaps-called set (ok .there))) pk coins _ _ _ (lent (P .coins) first refl fa)
-    (lent b second eb fb) (lent-enough w work ew fw) in
-    ready-gives differs (λ Q. publicLength Q + Q .coins) _ (rw es at ok)
-    (gives (encaps P true pk coins) (λ shared. shared .key ++ shared .ciphertext) (encaps-proper P pk coins)
-    (key' ++ drop (P .coins) first) (ct' ++ drop b second) (left .returned ∙ ap number called) o (omega arith) (omega arith)
-    (λ v e. ap₂ _++_ (front (λ shared. shared .key) (P .coins) first fa kept-key (left .key-is) called e)
-    (front (λ shared. shared .ciphertext) b second fb kept-ct (left .ciphertext) called e)))
+    let called = (rw (← ok .are) at (encaps-called set (ok .there))) pk coins _ _ _ (asked (P .coins) first refl fa)
+    (asked b second eb fb) (enough w work ew fw) in
+    let key : Lent _ (λ (shared : Shared). shared .key) (P .coins) first key' = record { fits = fa; kept = kept-key; is = left .key-is } in
+    let ct : Lent _ (λ (shared : Shared). shared .ciphertext) b second ct' = record { fits = fb; kept = kept-ct; is = left .ciphertext } in
+    ready-gives 4 (rw es at ok) refl
+    (gives (encaps P true pk coins) (λ shared. twoParts (shared .key) (shared .ciphertext)) (encaps-proper P pk coins)
+    (left .returned ∙ ap number called) o (omega arith) (omega arith)
+    (λ v e. lent-length key (called ∙ e)) (λ v e. lent-length ct (called ∙ e))
+    (lent-after key _ called) (lent-after ct _ called ∙ no-zeros _ _ second)
+    (wiped-front set w _ work (ok .there) ew fw (rw (← ok .are) at (left .wiped))))
 
 -- ---- 5, decaps
 
@@ -223,13 +231,12 @@ unfolding decaps recoveredCoins
 decaps-proper P sk ct = search (proper-then, proper-check, proper-answered, lit<) depth 9
 
 -- A check before the call fails; s and t are the lengths of the secret key and of the ciphertext.
-pub decaps-early : (body : List ℕ) {set s t status m n : ℕ} {P : Params} {first second : List ℕ} {r : Outcome}
+pub decaps-early : (body : List ℕ) {set s t status m n : ℕ} {P : Params} {first second work : List ℕ} {r : Outcome}
     → Parameters set P → s ≡ secretLength P → t ≡ ciphertextLength P
     → status ≡ early set (differs (length body) (s + t)) → (status ≡ 0 → ⊥) → OutcomeOf status m n r
-    → Gives (inSet set (λ Q. decapsBody Q body)) r first second
-unfolding decapsBody
-decaps-early body p es et is wrong o =
-    early-gives differs (λ Q. secretLength Q + ciphertextLength Q) _ body p (rw (es, et) at is) wrong o
+    → AnswerExit 5 set body first second work r first second work
+unfolding wrongLength bodyBytes
+decaps-early body p es et is wrong o = early-gives 5 body p (rw (es, et) at is) wrong o
 
 -- The checks pass: the record gives what the call leaves; s, t and w are the lengths of the secret key, the ciphertext and the work area.
 pub decaps-gives : {set s t w status : ℕ} {P : Params} {body first second work key' work' : List ℕ} {r : Outcome}
@@ -237,50 +244,33 @@ pub decaps-gives : {set s t w status : ℕ} {P : Params} {body first second work
     → s ≡ secretLength P → t ≡ ciphertextLength P → w ≡ decryptWork P
     → DecapsExit set (take s body) (take (length body - s) (drop s body)) (take (P .coins) first) (take w work) status key' work'
     → OutcomeOf status (P .coins) 0 r → length key' ≡ length (take (P .coins) first)
-    → Gives (inSet set (λ Q. decapsBody Q body)) r (key' ++ drop (P .coins) first) second
-unfolding decapsBody
+    → AnswerExit 5 set body first second work r (key' ++ drop (P .coins) first) second (work' ++ drop w work)
+unfolding decapsBody kindBody wrongLength bodyBytes workBytes
 decaps-gives {set} {s} {t} {w} {P = P} {body} {first} {second} {work} {key'} ok es et ew exit o kept-key =
     let sk = take (secretLength P) body in
     let ct = drop (secretLength P) body in
     let fa : P .coins ≤ length first = omega arith in
     let fw : w ≤ length work = omega arith in
     let left = rw (es, take-rest (secretLength P) body) at exit in
-    let called = (rw (← ok .are) at (decaps-called set (ok .there))) sk ct _ _ (lent (P .coins) first refl fa)
-    (lent-enough w work ew fw) in
-    ready-gives differs (λ Q. secretLength Q + ciphertextLength Q) _ (rw (es, et) at ok)
-    (gives-value (decaps P true sk ct) (decaps-proper P sk ct) (key' ++ drop (P .coins) first) second
+    let called = (rw (← ok .are) at (decaps-called set (ok .there))) sk ct _ _ (asked (P .coins) first refl fa)
+    (enough w work ew fw) in
+    let key : Lent _ (λ k. k) (P .coins) first key' = record { fits = fa; kept = kept-key; is = left .key-is } in
+    ready-gives 5 (rw (es, et) at ok) refl
+    (gives (decaps P true sk ct) onePart (decaps-proper P sk ct)
     (left .number-is ∙ ap number called) o (omega arith) (omega arith)
-    (λ v e. append-nil _ ∙ front (λ k. k) (P .coins) first fa kept-key (left .key-is) called e))
+    (λ v e. lent-length key (called ∙ e)) (λ v e. refl) (lent-after key _ called) (untouched _ second)
+    (wiped-front set w _ work (ok .there) ew fw (rw (← ok .are) at (left .wiped))))
 
 -- ---- the call that a kind names
 
-module _ (kind set : ℕ) (body first second : List ℕ) (r : Outcome) where
-  -- Kind 1 is keygen.
-  pub kind-1 : kind ≡ 1 → Gives (inSet set (λ P. keygenBody P body)) r first second
-      → Gives (recordAnswer kind set body) r first second
-  unfolding recordAnswer kindBody
-  kind-1 e g = rw (eq-eqb kind 1 e) g
+module _ (kind set : ℕ) (body first second work : List ℕ) (r : Outcome) (first' second' work' : List ℕ) where
+  -- A kind from 1 to 4 is itself.
+  pub kind-is : (k : ℕ) → kind ≡ k → AnswerExit k set body first second work r first' second' work'
+      → AnswerExit kind set body first second work r first' second' work'
+  kind-is k e g = rw e g
 
-  -- Kind 2 is encrypt.
-  pub kind-2 : (kind ≡ 1 → ⊥) → kind ≡ 2 → Gives (inSet set (λ P. encryptBody P body)) r first second
-      → Gives (recordAnswer kind set body) r first second
-  unfolding recordAnswer kindBody
-  kind-2 n1 e g = rw (ne-eqb kind 1 n1, eq-eqb kind 2 e) g
-
-  -- Kind 3 is decrypt.
-  pub kind-3 : (kind ≡ 1 → ⊥) → (kind ≡ 2 → ⊥) → kind ≡ 3 → Gives (inSet set (λ P. decryptBody P body)) r first second
-      → Gives (recordAnswer kind set body) r first second
-  unfolding recordAnswer kindBody
-  kind-3 n1 n2 e g = rw (ne-eqb kind 1 n1, ne-eqb kind 2 n2, eq-eqb kind 3 e) g
-
-  -- Kind 4 is encaps.
-  pub kind-4 : (kind ≡ 1 → ⊥) → (kind ≡ 2 → ⊥) → (kind ≡ 3 → ⊥) → kind ≡ 4
-      → Gives (inSet set (λ P. encapsBody P body)) r first second → Gives (recordAnswer kind set body) r first second
-  unfolding recordAnswer kindBody
-  kind-4 n1 n2 n3 e g = rw (ne-eqb kind 1 n1, ne-eqb kind 2 n2, ne-eqb kind 3 n3, eq-eqb kind 4 e) g
-
-  -- Kind 5 is decaps.
+  -- Any other is 5.
   pub kind-5 : (kind ≡ 1 → ⊥) → (kind ≡ 2 → ⊥) → (kind ≡ 3 → ⊥) → (kind ≡ 4 → ⊥)
-      → Gives (inSet set (λ P. decapsBody P body)) r first second → Gives (recordAnswer kind set body) r first second
-  unfolding recordAnswer kindBody
+      → AnswerExit 5 set body first second work r first' second' work' → AnswerExit kind set body first second work r first' second' work'
+  unfolding recordParts recordWork kindBody wrongLength bodyBytes workBytes
   kind-5 n1 n2 n3 n4 g = rw (ne-eqb kind 1 n1, ne-eqb kind 2 n2, ne-eqb kind 3 n3, ne-eqb kind 4 n4) g

@@ -3,9 +3,7 @@
 ghost use mathlib.Core.Path.{_≡_};
 ghost use mathlib.Core.Bool.{cond, not};
 ghost use Rattle.kindi.specs.Params.{isSet};
-ghost use Rattle.kindi.specs.Calls.{inSet};
-ghost use Rattle.record_calls.specs.Bodies.{keygenBody, encryptBody, decryptBody, encapsBody, decapsBody, recordAnswer};
-ghost use Rattle.record_calls.specs.Outputs.{Room, OutcomeOf, Gives};
+ghost use Rattle.record_calls.specs.Outputs.{Room, OutcomeOf, AnswerExit};
 use calls::checks;
 use calls::sizes;
 use decryption_calls::decaps;
@@ -50,7 +48,8 @@ fn refuse(set: u32, bad: bool) -> u32
 // Kind 1.
 fn make_keys(set: u32, body: &[u8], first: &mut [u8], second: &mut [u8], work: &mut [u8]) -> Outcome
     requires { ⌜ Room (now first) (now second) (now work) ⌝ }
-    ensures { λ r. ⌜ Gives (inSet set (λ P. keygenBody P (now (body .entry)))) r (now (first .exit)) (now (second .exit)) ⌝ }
+    ensures { λ r. ⌜ AnswerExit 1 set (now (body .entry)) (now (first .entry)) (now (second .entry)) (now (work .entry))
+        r (now (first .exit)) (now (second .exit)) (now (work .exit)) ⌝ }
 {
     let p = kindi::parameters(set);
     let seed = p.seed;
@@ -83,7 +82,8 @@ fn encrypt_message(
     work: &mut [u8],
 ) -> Outcome
     requires { ⌜ Room (now first) (now second) (now work) ⌝ }
-    ensures { λ r. ⌜ Gives (inSet set (λ P. encryptBody P (now (body .entry)))) r (now (first .exit)) (now (second .entry)) ⌝ }
+    ensures { λ r. ⌜ AnswerExit 2 set (now (body .entry)) (now (first .entry)) (now (second .entry)) (now (work .entry))
+        r (now (first .exit)) (now (second .entry)) (now (work .exit)) ⌝ }
 {
     let p = kindi::parameters(set);
     let public = sizes::public_key(p);
@@ -114,7 +114,8 @@ fn decrypt_message(
     work: &mut [u8],
 ) -> Outcome
     requires { ⌜ Room (now first) (now second) (now work) ⌝ }
-    ensures { λ r. ⌜ Gives (inSet set (λ P. decryptBody P (now (body .entry)))) r (now (first .exit)) (now (second .exit)) ⌝ }
+    ensures { λ r. ⌜ AnswerExit 3 set (now (body .entry)) (now (first .entry)) (now (second .entry)) (now (work .entry))
+        r (now (first .exit)) (now (second .exit)) (now (work .exit)) ⌝ }
 {
     let p = kindi::parameters(set);
     let secret = sizes::secret_key(p);
@@ -147,7 +148,8 @@ fn encapsulate(
     work: &mut [u8],
 ) -> Outcome
     requires { ⌜ Room (now first) (now second) (now work) ⌝ }
-    ensures { λ r. ⌜ Gives (inSet set (λ P. encapsBody P (now (body .entry)))) r (now (first .exit)) (now (second .exit)) ⌝ }
+    ensures { λ r. ⌜ AnswerExit 4 set (now (body .entry)) (now (first .entry)) (now (second .entry)) (now (work .entry))
+        r (now (first .exit)) (now (second .exit)) (now (work .exit)) ⌝ }
 {
     let p = kindi::parameters(set);
     let public = sizes::public_key(p);
@@ -172,7 +174,8 @@ fn encapsulate(
 // Kind 5.
 fn decapsulate(set: u32, body: &[u8], first: &mut [u8], second: &[u8], work: &mut [u8]) -> Outcome
     requires { ⌜ Room (now first) (now second) (now work) ⌝ }
-    ensures { λ r. ⌜ Gives (inSet set (λ P. decapsBody P (now (body .entry)))) r (now (first .exit)) (now (second .entry)) ⌝ }
+    ensures { λ r. ⌜ AnswerExit 5 set (now (body .entry)) (now (first .entry)) (now (second .entry)) (now (work .entry))
+        r (now (first .exit)) (now (second .entry)) (now (work .exit)) ⌝ }
 {
     let p = kindi::parameters(set);
     let secret = sizes::secret_key(p);
@@ -202,7 +205,8 @@ pub fn answer(
     work: &mut [u8],
 ) -> Outcome
     requires { ⌜ Room (now first) (now second) (now work) ⌝ }
-    ensures { λ r. ⌜ Gives (recordAnswer kind set (now (body .entry))) r (now (first .exit)) (now (second .exit)) ⌝ }
+    ensures { λ r. ⌜ AnswerExit kind set (now (body .entry)) (now (first .entry)) (now (second .entry)) (now (work .entry))
+        r (now (first .exit)) (now (second .exit)) (now (work .exit)) ⌝ }
 {
     if kind == 1 {
         return make_keys(set, body, first, second, work);

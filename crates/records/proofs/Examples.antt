@@ -3,11 +3,11 @@ use mathlib.Core.Path.{_≡_, refl}
 use mathlib.Core.List.{List, [], _∷_}
 use Prim.Native.Nat.{ℕ}
 use Rattle.keccak.specs.Lists.{concatMap}
-use Rattle.kindi.specs.Answers.{refuseIf}
+use Rattle.kindi.specs.Answers.{refuseIf, then}
 use Rattle.kindi.specs.Params.{ofSet}
 use Rattle.kindi.specs.Calls.{number, output, inSet}
 use Rattle.lines.specs.Line.{decimalIn, decimal, fields, outputField, line, endLine}
-use Rattle.record_calls.specs.Bodies.{keygenBody, kindBody, recordAnswer}
+use Rattle.record_calls.specs.Bodies.{bodyBytes, wrongLength, recordParts, joined, recordAnswer}
 use Rattle.records.specs.Header.{headerNumber, readHeader}
 use Rattle.records.specs.Record.{stepBy, step, stepLine}
 use Rattle.records.specs.Transcript.{linesOf, linesFrom, recordLines, transcript}
@@ -27,7 +27,7 @@ text =
 
 pub example : transcript input ≡ text
 unfolding transcript recordLines linesFrom linesOf step stepBy stepLine readHeader headerNumber
-    recordAnswer kindBody keygenBody inSet refuseIf ofSet number output concatMap decimalIn decimal fields outputField line endLine
+    recordAnswer joined recordParts wrongLength bodyBytes inSet refuseIf then ofSet number output concatMap decimalIn decimal fields outputField line endLine
 example = refl
 
 pub empty : transcript [] ≡ 101 ∷ 110 ∷ 100 ∷ 32 ∷ 48 ∷ 10 ∷ []

@@ -57,10 +57,10 @@ module _ {b₀ : List ℕ} {from left i : ℕ} {b : List ℕ} (h : Moved b₀ fr
       }
 
   -- After the last byte.
-  pub moved-all : left ≤ i → take left b ≡ take left (drop from b₀)
+  pub moved-all : left ≤ i → b ≡ take left (drop from b₀) ++ drop left b₀
   moved-all last =
       let all : i ≡ left = omega arith in
-      rw (← all) (h .so-far)
+      rw (← all) (sym (take-append-drop i b) ∙ ap₂ _++_ (h .so-far) (h .behind))
 
 -- ---- what a window shows
 

@@ -6,8 +6,8 @@ ghost use mathlib.Core.List.{[]};
 ghost use Prim.Native.Nat.{_+_, _≤_, _<_};
 ghost use lib.ListN.{length};
 ghost use Rattle.records.specs.Header.{isWhole};
-ghost use Rattle.records.specs.Record.{stopped, stepBy, step as Record·step};
-ghost use Rattle.records.specs.Steps.{StepRoom, StepExit};
+ghost use Rattle.records.specs.Record.{stopped, stepBy};
+ghost use Rattle.records.specs.Steps.{StepRoom, LineExit, StepExit};
 use crate::header;
 use crate::header::Header;
 
@@ -42,7 +42,7 @@ impl Stepped {
 // A refusal with no kind, after which reading ends.
 fn stop(done: usize, status: u32, at: usize, out: &mut [u8]) -> Stepped
     requires { ⌜ (done < 65535) × (at + 86 ≤ length (now out)) ⌝ }
-    ensures { λ r. ⌜ StepExit done (stopped status) (now (out .entry)) at r (now (out .exit)) ⌝ }
+    ensures { λ r. ⌜ LineExit done (stopped status) (now (out .entry)) at r (now (out .exit)) ⌝ }
 {
     let next = lines::put_refusal(done + 1, false, 0, status, at, out);
     Stepped::new(done + 1, next, 0, true)
@@ -51,7 +51,7 @@ fn stop(done: usize, status: u32, at: usize, out: &mut [u8]) -> Stepped
 // A header that is not whole: its refusal is printed; of the end of the input nothing is.
 fn refuse(done: usize, header: Header, at: usize, out: &mut [u8]) -> Stepped
     requires { ⌜ (done < 65535) × (at + 86 ≤ length (now out)) × (isWhole header ≡ false) ⌝ }
-    ensures { λ r. ⌜ StepExit done (stepBy [] header) (now (out .entry)) at r (now (out .exit)) ⌝ }
+    ensures { λ r. ⌜ LineExit done (stepBy [] header) (now (out .entry)) at r (now (out .exit)) ⌝ }
 {
     match header {
         Header::Short => stop(done, 11, at, out),
@@ -77,7 +77,8 @@ pub fn step(
     work: &mut [u8],
 ) -> Stepped
     requires { ⌜ StepRoom done at (now out) (now first) (now second) (now work) ⌝ }
-    ensures { λ r. ⌜ StepExit done (Record·step (now (rest .entry))) (now (out .entry)) at r (now (out .exit)) ⌝ }
+    ensures { λ r. ⌜ StepExit done (now (rest .entry)) (now (out .entry)) at (now (first .entry)) (now (second .entry)) (now (work .entry))
+        r (now (out .exit)) (now (first .exit)) (now (second .exit)) (now (work .exit)) ⌝ }
 {
     let header = header::read_header(rest);
     let Header::Whole(kind, set, body) = header else {

@@ -1,5 +1,6 @@
 // The window on the input: what was read of it and is left stands in a part of a lent buffer.
 ghost use mathlib.Core.Path.{_≡_};
+ghost use mathlib.Core.List.{_++_};
 ghost use Prim.Native.Nat.{_-_, _≤_};
 ghost use lib.ListN.{length, take, drop};
 ghost use Rattle.records.specs.Header.{showsRecord};
@@ -23,10 +24,10 @@ pub fn shows_record(window: &[u8]) -> bool
     6 + body as usize <= left
 }
 
-// Moves the part from `from` to `to` to the front of the buffer.
+// Moves the part from `from` to `to` to the front of the buffer; behind it the buffer stays as it was.
 pub fn to_front(buffer: &mut [u8], from: usize, to: usize)
     requires { ⌜ (from ≤ to) × (to ≤ length (now buffer)) ⌝ }
-    ensures { λ _. ⌜ take (to - from) (now (buffer .exit)) ≡ take (to - from) (drop from (now (buffer .entry))) ⌝ }
+    ensures { λ _. ⌜ now (buffer .exit) ≡ take (to - from) (drop from (now (buffer .entry))) ++ drop (to - from) (now (buffer .entry)) ⌝ }
 {
     let left = to - from;
     let mut i = 0;

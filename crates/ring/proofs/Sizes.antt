@@ -35,7 +35,7 @@ abs-mag : (z : ℤ) → natAbs z ≤ suc (mag z)
 abs-mag (pos n) = omega arith
 abs-mag (negsuc n) = omega arith
 
-pub abs-fits : (w : Width) (z : ℤ) → SFits w z → natAbs z ≤ 2 ^ hbits w
+abs-fits : (w : Width) (z : ℤ) → SFits w z → natAbs z ≤ 2 ^ hbits w
 abs-fits w z h = le-trans (abs-mag z) (h .sfits)
 
 pub wider : {z : ℤ} → SFits w16 z → SFits w32 z
@@ -176,11 +176,11 @@ pub four-terms : (g : ℕ → ℤ) → (g 0 +ℤ g 1) +ℤ (g 2 +ℤ g 3) ≡ su
 unfolding sum
 four-terms g = simp (+ℤ-assoc, +ℤ-idl)
 
--- Four terms, then four more.
-pub eight-terms : (f : ℕ → ℤ) (i : ℕ) → sum 4 (λ j. f (i + j)) +ℤ sum 4 (λ j. f (i + 4 + j)) ≡ sum 8 (λ j. f (i + j))
-eight-terms f i =
-    ap (λ (x : ℤ). sum 4 (λ j. f (i + j)) +ℤ x) (sum-ext 4 (λ j. f (i + 4 + j)) (λ j. f (i + (4 + j))) (λ j _. ap f (add-assoc i 4 j)))
-    ∙ sym (sum-split 4 4 (λ j. f (i + j)))
+-- m terms, then m more.
+pub terms-twice : (m : ℕ) (f : ℕ → ℤ) (i : ℕ) → sum m (λ j. f (i + j)) +ℤ sum m (λ j. f (i + m + j)) ≡ sum (m + m) (λ j. f (i + j))
+terms-twice m f i =
+    ap (λ (x : ℤ). sum m (λ j. f (i + j)) +ℤ x) (sum-ext m (λ j. f (i + m + j)) (λ j. f (i + (m + j))) (λ j _. ap f (add-assoc i m j)))
+    ∙ sym (sum-split m m (λ j. f (i + j)))
 
 -- ---- intervals
 

@@ -11,12 +11,12 @@ use mir.Val.{SFits, toZ, ofZ}
 use mir.ValLaws.{toZ-ofZ}
 use Rattle.bits.proofs.Filling.{Filling, filling-begun, filling-more, filling-at}
 use Rattle.ring.proofs.Integers.{natAbs-add}
-use Rattle.ring.proofs.Sizes.{dot-fits, fits-abs, word-sum, term-read, four-terms}
+use Rattle.ring.proofs.Sizes.{dot-fits, fits-abs, word-sum, term-read, terms-fit, four-terms, terms-twice}
 use Rattle.ring.proofs.Sums.{sum-split}
 use Rattle.ring.specs.Integers.{largest}
 use Rattle.ring.specs.Poly.{sum, shifted, mul, plus, ofInts}
 use Rattle.ring.specs.Coefficients.{Summable}
-use Rattle.ring.specs.Terms.{backwards, negatedBackwards, terms}
+use Rattle.ring.specs.Terms.{backwards, negatedBackwards, terms, Terms}
 use Rattle.signed.proofs.Reversal.{row-at, met, met-long, met-size, met-product, product-bound}
 
 -- The sum of two words is the number x where it is that of their values and x fits.
@@ -40,6 +40,15 @@ pub four-pairs : (a b : List ℤ) (i : ℕ)
 four-pairs a b i =
     ap (λ (x : ℤ). (x +ℤ terms a b (i + 1)) +ℤ (terms a b (i + 2) +ℤ terms a b (i + 3))) (ap (terms a b) (sym (add-zero i)))
     ∙ four-terms (λ j. terms a b (i + j))
+
+-- Words with m terms and with m more make up twice as many.
+module _ (m : ℕ) {a b : List ℤ} {i : ℕ} {r s : ℤ} (both : Terms a b i (m + m)) (fr : SFits w32 r) (fs : SFits w32 s)
+    (er : r ≡ sum m (λ j. terms a b (i + j))) (es : s ≡ sum m (λ j. terms a b (i + m + j))) where
+  pub twice-fits : SFits w32 (toZ w32 (ofZ w32 r) +ℤ toZ w32 (ofZ w32 s))
+  twice-fits = both-fits fr fs er es (terms-twice m (terms a b) i) (terms-fit a b i (m + m) (m + m) both (le-refl (m + m)))
+
+  pub twice-value : toZ w32 (ofZ w32 (toZ w32 (ofZ w32 r) +ℤ toZ w32 (ofZ w32 s))) ≡ sum (m + m) (λ j. terms a b (i + j))
+  twice-value = both-value fr fs er es (terms-twice m (terms a b) i) (terms-fit a b i (m + m) (m + m) both (le-refl (m + m)))
 
 -- A word that has the sum of the products of the first i entries, in lists so small that no such sum leaves 32 bits.
 pub record Summed (a b : List ℤ) (i total : ℕ) : Type 0 where

@@ -60,16 +60,32 @@ fn eight(a: &[i16], b: &[i16], i: usize) -> i32
     four(a, b, i) + four(a, b, i + 4)
 }
 
-// The sum of the products of the entries up to a multiple of eight.
-fn dot_eights(a: &[i16], b: &[i16]) -> i32
+// Sixteen terms from place i on.
+fn sixteen(a: &[i16], b: &[i16], i: usize) -> i32
+    requires { ⌜ Terms (now a) (now b) i 16 ⌝ }
+    ensures { λ r. ⌜ r ≡ sum 16 (λ j. terms (now (a .entry)) (now (b .entry)) (i + j)) ⌝ }
+{
+    eight(a, b, i) + eight(a, b, i + 8)
+}
+
+// Thirty-two terms from place i on, which the compiler sums in one vector.
+fn thirty_two(a: &[i16], b: &[i16], i: usize) -> i32
+    requires { ⌜ Terms (now a) (now b) i 32 ⌝ }
+    ensures { λ r. ⌜ r ≡ sum 32 (λ j. terms (now (a .entry)) (now (b .entry)) (i + j)) ⌝ }
+{
+    sixteen(a, b, i) + sixteen(a, b, i + 16)
+}
+
+// The sum of the products of the entries up to a multiple of 32.
+fn dot_blocks(a: &[i16], b: &[i16]) -> i32
     requires { ⌜ (length (now b) ≡ length (now a)) × (length (now a) * (largest (now a) * largest (now b)) < 2 ^ 31) ⌝ }
-    ensures { λ r. ⌜ r ≡ sum (length (now (a .entry)) / 8 * 8) (terms (now (a .entry)) (now (b .entry))) ⌝ }
+    ensures { λ r. ⌜ r ≡ sum (length (now (a .entry)) / 32 * 32) (terms (now (a .entry)) (now (b .entry))) ⌝ }
 {
     let mut total = 0i32;
     let mut i = 0;
-    while 8 <= a.len() - i {
-        total = total + eight(a, b, i);
-        i += 8;
+    while 32 <= a.len() - i {
+        total = total + thirty_two(a, b, i);
+        i += 32;
     }
     total
 }
@@ -79,8 +95,8 @@ fn dot(a: &[i16], b: &[i16]) -> i32
     requires { ⌜ (length (now b) ≡ length (now a)) × (length (now a) * (largest (now a) * largest (now b)) < 2 ^ 31) ⌝ }
     ensures { λ r. ⌜ r ≡ sum (length (now (a .entry))) (λ i. ofInts (now (a .entry)) i *ℤ ofInts (now (b .entry)) i) ⌝ }
 {
-    let mut total = dot_eights(a, b);
-    let mut i = a.len() / 8 * 8;
+    let mut total = dot_blocks(a, b);
+    let mut i = a.len() / 32 * 32;
     while i < a.len() {
         total = total + times(a[i], b[i]);
         i += 1;

@@ -1,7 +1,7 @@
 -- Laws of lengths: how they add up, and that they are small. Assumes nothing.
 use mathlib.Core.Path.{_≡_, sym, ap, _∙_}
 use Prim.Native.Nat.{ℕ, zero, suc, _+_, _-_, _*_, _/_, _^_, _≤_, _<_, suc-le-suc, zero-le}
-use native.Mathlib.Nat.{not-suc-le-zero, add-sub-cancel, pow-suc, mul-div-cancel, mul-le-mul, mul-le-mul-right, add-mul, one-mul, zero-mul, suc-mul}
+use native.Mathlib.Nat.{not-suc-le-zero, le-refl, add-sub-cancel, pow-suc, mul-div-cancel, mul-le-mul, mul-le-mul-right, add-mul, one-mul, zero-mul, suc-mul}
 use native.Mathlib.Numerals.{add-one}
 use native.Mathlib.Omega.{arith}
 use mathlib.Core.List.{List, _++_}
@@ -11,6 +11,7 @@ use Rattle.bits.specs.Bits.{bytesFor}
 use Rattle.product.specs.Dots.{Vectors}
 use Rattle.kindi.specs.declared.Params.{Params}
 use Rattle.kindi.specs.Params.{WellFormed, half, width, lengthOf}
+use Rattle.kindi.proofs.Lengths.{length-mono}
 use Rattle.kindi.proofs.Strings.{whole-bytes}
 
 -- A polynomial has at most 1,024 bytes, and 64 of them at most 65,536.
@@ -38,8 +39,7 @@ length-none P w = zero-mul (P .n / 8 * w)
 
 -- More of them are longer.
 pub length-le : (P : Params) {a b : ℕ} (w : ℕ) → a ≤ b → lengthOf P a w ≤ lengthOf P b w
-unfolding lengthOf
-length-le P w h = mul-le-mul-right (P .n / 8 * w) h
+length-le P w h = length-mono P h (le-refl w)
 
 -- The width of a small coefficient is below 16.
 pub width-bound : (P : Params) → WellFormed P → width P ≤ 16

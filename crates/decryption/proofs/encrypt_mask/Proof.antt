@@ -1,8 +1,9 @@
 -- `decryption::encrypt_mask` meets its contract.
 -- Assumes nothing.
+use Rattle.keccak.specs.Lists.{patched}
 use Rattle.decryption.proofs.Masked.{streams-long, mask-cipher}
 use Rattle.vectors.proofs.Joining.{two-streams}
-use Rattle.keccak.proofs.Parts.{patched, take-rest}
+use Rattle.keccak.proofs.Parts.{take-rest}
 use Rattle.hash.specs.Shake.{shake}
 use Rattle.encryption.specs.Layout.{cipherFrom}
 use Rattle.kindi.specs.Keys.{matrixSeed}

@@ -1,8 +1,9 @@
 -- `encryption::encrypt` meets its contract.
 -- Assumes nothing.
+use Rattle.keccak.specs.Lists.{patched}
 use Rattle.kindi.specs.Streams.{coinsStream}
 use Rattle.kindi.specs.Encrypt.{masked}
-use Rattle.keccak.proofs.Parts.{patched, take-rest}
+use Rattle.keccak.proofs.Parts.{take-rest}
 use Rattle.hash.specs.Shake.{shake}
 use Rattle.encryption.proofs.Assembly.{encrypt-is}
 use Rattle.encryption.specs.Layout.{cipherFrom}

@@ -1,9 +1,9 @@
 -- `keys::keygen` meets its contract: both streams, the public key, and the three parts of the secret key, each in its place.
 -- Assumes nothing.
+use Rattle.keccak.specs.Lists.{patched}
 use Rattle.vectors.proofs.Amounts.{part-length}
 use Rattle.vectors.proofs.Joining.{rest-is, rest-same, first-same, next-same, then-rest}
 use Rattle.keys.proofs.Made.{keyStreams, streams-made, streams-long, public-made, secret-made}
-use Rattle.keccak.proofs.Parts.{patched}
 use Rattle.kindi.specs.Params.{keygenWork}
 use denote.Ref.{now}
 use lib.ListN.{length, take, drop, length-take, length-append}

@@ -7,13 +7,12 @@ use native.Mathlib.Omega.{arith}
 use borrow.Author.Needs.{needs}
 use lib.Seq.{length-take-le}
 use lib.ListN.{length}
-use Rattle.records.proofs.Stepping.{never-true}
-use Rattle.linkcheck.proofs.Laws.{Reading, read-falls, read-behind, filled}
+use Rattle.linkcheck.proofs.Laws.{Reading, reading-begun, reading-more, read-falls, filled}
 use Rattle.linkcheck.proofs.fill.Statement.{statement}
 use Rattle.linkcheck.proofs.fill.Tie as tie
 
 abbrev Inv-loop : tie.InvT-loop
-Inv-loop s input₀ from to end₀ more₀ input end more = Reading input₀ (to - from) input end
+Inv-loop s input₀ from to end₀ more₀ input end more = Reading input₀ (to - from) input end more
 
 abbrev μ-loop : tie.MeasureT-loop
 μ-loop s input₀ from to end₀ more₀ input end more = (length input - end) + cond more 1 0
@@ -32,7 +31,7 @@ sub-end : tie.Need-sub-end Inv-loop μ-loop
 sub-end c = omega arith
 
 loop-holds : tie.Need-loop-holds Inv-loop μ-loop
-loop-holds c = search needs
+loop-holds c = reading-begun (omega arith)
 
 slice-reshare-prefix-shows-record : tie.Need-slice-reshare-prefix-shows-record Inv-loop μ-loop
 slice-reshare-prefix-shows-record c = omega arith
@@ -77,12 +76,10 @@ loop-again : tie.Need-loop-again Inv-loop μ-loop
 loop-again c =
     let turn : Turn = search in
     let read : tie.After-read Inv-loop μ-loop = search in
-    record {
-      within = omega arith;
-      long = omega arith;
-      some = omega arith;
-      same = read-behind (read .read .last .1 .0) (turn .loop .inv);
-    }
+    let hidden : tie.Else1 Inv-loop μ-loop = search in
+    let shown : tie.After-shows-record Inv-loop μ-loop = search in
+    reading-more _ (read .read .last .1 .0) (turn .loop .inv) (sym (shown .shows-record .ensures) ∙ hidden .if1 .left)
+    (omega arith) (omega arith)
 
 same-length : tie.Need-same-length Inv-loop μ-loop
 same-length c = omega arith
@@ -91,7 +88,8 @@ returns : tie.Need-returns Inv-loop μ-loop
 returns c =
     let front : Front = search in
     let turn : Turn = search in
-    filled (turn .loop .inv) (omega arith) (front .to-front .ensures) (λ e. never-true (sym e ∙ c .loop-test .left))
+    filled (omega arith) (omega arith) (front .to-front .ensures) (omega arith) (turn .loop .inv)
+    (c .loop-test .left ∙ sym (turn .loop .inv .over (c .loop-test .left)))
 
 same-length-2 : tie.Need-same-length-2 Inv-loop μ-loop
 same-length-2 c = omega arith
@@ -100,7 +98,11 @@ returns-2 : tie.Need-returns-2 Inv-loop μ-loop
 returns-2 c =
     let front : Front = search in
     let turn : Turn = search in
-    filled (turn .loop .inv) (omega arith) (front .to-front .ensures) (λ e. cc)
+    let test : tie.In-loop Inv-loop μ-loop = search in
+    let shown : tie.After-shows-record Inv-loop μ-loop = search in
+    let taken : tie.Then1 Inv-loop μ-loop = search in
+    filled (omega arith) (omega arith) (front .to-front .ensures) (omega arith) (turn .loop .inv)
+    (test .loop-test .taken ∙ sym (taken .if1 .taken) ∙ shown .shows-record .ensures)
 
 pub fill-spec : {M : Type 1} → statement M
 fill-spec =

@@ -1,8 +1,9 @@
 -- `linkcheck::flush` meets its contract.
 -- Assumes nothing.
-use mathlib.Core.Path.{sym}
+use mathlib.Core.Path.{refl, sym}
 use borrow.Author.Needs.{needs}
 use lib.Seq.{length-take-le}
+use Rattle.linkcheck.specs.Turns.{flushed}
 use Rattle.linkcheck.proofs.flush.Statement.{statement}
 use Rattle.linkcheck.proofs.flush.Tie as tie
 
@@ -13,7 +14,8 @@ write-all-requires : tie.Need-write-all-requires
 write-all-requires c κs = search needs
 
 returns : tie.Need-returns
-returns c = search needs
+unfolding flushed
+returns c = refl
 
 pub flush-spec : {M : Type 1} → statement M
 flush-spec = tie.close (tie.spec slice-aggregate-write-all write-all-requires returns)

@@ -1,11 +1,10 @@
 -- `linkcheck::ready` meets its contract.
 -- Assumes nothing.
 use mathlib.Core.Path.{sym, _∙_}
-use borrow.Author.Tests.{not-true}
+use borrow.Author.Tests.{not-true, not-false}
 use borrow.Author.Needs.{needs}
-use Rattle.records.proofs.Stepping.{never-true}
 use Rattle.linkcheck.specs.Turns.{windowOf}
-use Rattle.linkcheck.proofs.Laws.{ready-before, ready-filled}
+use Rattle.linkcheck.proofs.Laws.{flush-unmoved, ready-ended, ready-shown, ready-waited}
 use Rattle.linkcheck.proofs.ready.Statement.{statement}
 use Rattle.linkcheck.proofs.ready.Tie as tie
 
@@ -16,7 +15,7 @@ returns : tie.Need-returns
 returns c =
     let start : tie.Start = search in
     let ended : tie.Then1 = search in
-    ready-before (start .pre) (c .make-room .ensures) (λ e. never-true (sym e ∙ not-true _ (ended .if1 .taken)))
+    ready-ended (start .pre) (c .make-room .ensures) (not-true _ (ended .if1 .taken))
 
 sub-shows-record : tie.Need-sub-shows-record
 sub-shows-record c = search needs
@@ -38,23 +37,35 @@ same-length c = search needs
 
 returns-2 : tie.Need-returns-2
 unfolding windowOf
-returns-2 c = let start : tie.Start = search in ready-before (start .pre) (c .make-room2 .ensures) (λ e. cc)
+returns-2 c =
+    let start : tie.Start = search in
+    let shown : tie.After-shows-record = search in
+    let taken : tie.Then2 = search in
+    ready-shown (start .pre) (c .make-room2 .ensures) (sym (shown .shows-record .ensures) ∙ taken .if2 .taken)
 
 flush-requires : tie.Need-flush-requires
 flush-requires c κs = search needs
 
 fill-requires : tie.Need-fill-requires
-fill-requires c κs = search needs
+fill-requires c κs =
+    let flushed : tie.After-flush = search in
+    let still = flush-unmoved (flushed .flush .ensures) in
+    search needs
 
 same-length-2 : tie.Need-same-length-2
 same-length-2 c = search needs
 
 returns-3 : tie.Need-returns-3
+unfolding windowOf
 returns-3 c =
     let start : tie.Start = search in
+    let on : tie.Else1 = search in
+    let shown : tie.After-shows-record = search in
+    let hidden : tie.Else2 = search in
     let flushed : tie.After-flush = search in
     let read : tie.After-fill = search in
-    ready-filled (start .pre .room) (flushed .flush .ensures) (read .fill .ensures)
+    ready-waited (start .pre .room) (not-false _ (on .if1 .left)) (sym (shown .shows-record .ensures) ∙ hidden .if2 .left)
+    (flushed .flush .ensures) (read .fill .ensures)
 
 pub ready-spec : {M : Type 1} → statement M
 ready-spec =

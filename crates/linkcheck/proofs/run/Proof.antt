@@ -6,12 +6,13 @@ use Prim.Native.Nat.{_-_}
 use native.Mathlib.Omega.{arith}
 use borrow.Author.Needs.{needs}
 use lib.Seq.{length-take-le}
-use Rattle.linkcheck.proofs.Laws.{Running, turn-falls, running-more, written-within}
+use Rattle.linkcheck.proofs.Laws.{Running, wiped-none, turn-falls, running-more, written-within}
 use Rattle.linkcheck.proofs.run.Statement.{statement}
 use Rattle.linkcheck.proofs.run.Tie as tie
 
 abbrev Inv-loop : tie.InvT-loop
-Inv-loop input₀ out₀ first₀ second₀ work₀ s₀ ended₀ input out first second work s ended = Running s ended input out first second work
+Inv-loop input₀ out₀ first₀ second₀ work₀ s₀ ended₀ input out first second work s ended =
+    Running s ended work₀ input out first second work
 
 abbrev μ-loop : tie.MeasureT-loop
 μ-loop input₀ out₀ first₀ second₀ work₀ s₀ ended₀ input out first second work s ended = cond ended 0 (65535 - s .done)
@@ -33,7 +34,7 @@ abbrev Ended : Type 0
 Ended = tie.After-put-end Inv-loop μ-loop
 
 loop-holds : tie.Need-loop-holds Inv-loop μ-loop
-loop-holds c = search needs
+loop-holds c = search (needs, wiped-none)
 
 ready-requires : tie.Need-ready-requires Inv-loop μ-loop
 ready-requires c κs = search needs
@@ -54,7 +55,7 @@ same-length-5 : tie.Need-same-length-5 Inv-loop μ-loop
 same-length-5 c = search needs
 
 returns : tie.Need-returns Inv-loop μ-loop
-returns c = tt
+returns c = search needs
 
 answer-requires : tie.Need-answer-requires Inv-loop μ-loop
 answer-requires c κs =
@@ -98,7 +99,7 @@ same-length-10 : tie.Need-same-length-10 Inv-loop μ-loop
 same-length-10 c = search needs
 
 returns-2 : tie.Need-returns-2 Inv-loop μ-loop
-returns-2 c = tt
+returns-2 c = search needs
 
 put-end-requires : tie.Need-put-end-requires Inv-loop μ-loop
 put-end-requires c κs = search needs
@@ -130,7 +131,7 @@ same-length-15 : tie.Need-same-length-15 Inv-loop μ-loop
 same-length-15 c = search needs
 
 returns-3 : tie.Need-returns-3 Inv-loop μ-loop
-returns-3 c = tt
+returns-3 c = search needs
 
 pub run-spec : {M : Type 1} → statement M
 run-spec =

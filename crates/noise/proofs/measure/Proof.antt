@@ -7,8 +7,8 @@ use native.Mathlib.Omega.{arith}
 use borrow.Author.Needs.{needs}
 use denote.Ref.{now}
 use lib.ListN.{length, take, drop}
+use Rattle.keccak.specs.Lists.{patched}
 use Rattle.hash.specs.Shake.{shake}
-use Rattle.keccak.proofs.Parts.{patched}
 use Rattle.ring.specs.Integers.{largest}
 use Rattle.kindi.specs.Params.{modulus, secretsLength}
 use Rattle.kindi.specs.Keys.{secretSeed}

@@ -7,7 +7,7 @@ use native.Mathlib.Omega.{arith}
 use borrow.Author.Needs.{needs}
 use denote.Ref.{now}
 use lib.ListN.{length, take, drop, length-take}
-use Rattle.keccak.proofs.Parts.{patched}
+use Rattle.keccak.specs.Lists.{patched}
 use Rattle.kindi.specs.Params.{lengthOf}
 use Rattle.kindi.specs.Keys.{publicPart, matrixSeed, secretSeed}
 use Rattle.kindi.specs.Answers.{same}

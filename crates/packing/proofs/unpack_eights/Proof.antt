@@ -6,8 +6,8 @@ use Prim.Native.Nat.{ℕ, _+_, _*_, _-_, _≤_}
 use native.Mathlib.Omega.{arith}
 use denote.Ref.{now}
 use lib.ListN.{length, drop, length-append, length-take, length-drop}
-use Rattle.keccak.specs.Lists.{digits}
-use Rattle.keccak.proofs.Parts.{patched, take-rest}
+use Rattle.keccak.specs.Lists.{digits, patched}
+use Rattle.keccak.proofs.Parts.{take-rest}
 use Rattle.bits.proofs.Digits.{length-unpack, unpack-add}
 use Rattle.bits.proofs.Filling.{front-more}
 use Rattle.bits.specs.Bits.{unpack, Below}

@@ -1,7 +1,7 @@
 -- `record_calls::answer` meets its contract: each branch is the kind's call.
 -- Assumes nothing.
 use borrow.Author.Needs.{needs}
-use Rattle.record_calls.proofs.ByKind.{kind-1, kind-2, kind-3, kind-4, kind-5}
+use Rattle.record_calls.proofs.ByKind.{kind-is, kind-5}
 use Rattle.record_calls.proofs.answer.Statement.{statement}
 use Rattle.record_calls.proofs.answer.Tie as tie
 
@@ -18,7 +18,7 @@ same-length-3 : tie.Need-same-length-3
 same-length-3 c = search needs
 
 returns : tie.Need-returns
-returns c = search kind-1
+returns c = search kind-is
 
 encrypt-message-requires : tie.Need-encrypt-message-requires
 encrypt-message-requires c κs = search needs
@@ -33,7 +33,7 @@ same-length-6 : tie.Need-same-length-6
 same-length-6 c = search needs
 
 returns-2 : tie.Need-returns-2
-returns-2 c = search kind-2
+returns-2 c = search kind-is
 
 decrypt-message-requires : tie.Need-decrypt-message-requires
 decrypt-message-requires c κs = search needs
@@ -48,7 +48,7 @@ same-length-9 : tie.Need-same-length-9
 same-length-9 c = search needs
 
 returns-3 : tie.Need-returns-3
-returns-3 c = search kind-3
+returns-3 c = search kind-is
 
 encapsulate-requires : tie.Need-encapsulate-requires
 encapsulate-requires c κs = search needs
@@ -63,7 +63,7 @@ same-length-12 : tie.Need-same-length-12
 same-length-12 c = search needs
 
 returns-4 : tie.Need-returns-4
-returns-4 c = search kind-4
+returns-4 c = search kind-is
 
 decapsulate-requires : tie.Need-decapsulate-requires
 decapsulate-requires c κs = search needs

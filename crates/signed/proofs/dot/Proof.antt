@@ -1,4 +1,4 @@
--- `signed::dot` meets its contract: after the eights one product a turn is added, and a word holds the sum.
+-- `signed::dot` meets its contract: after the blocks one product a turn is added, and a word holds the sum.
 -- Assumes nothing.
 use mathlib.Core.Path.{_≡_, ap, _∙_}
 use Prim.Native.Nat.{ℕ, _-_}
@@ -27,8 +27,8 @@ Start = tie.Start Inv-loop μ-loop
 abbrev Turn : Type 0
 Turn = tie.At-loop Inv-loop μ-loop
 
-dot-eights-requires : tie.Need-dot-eights-requires Inv-loop μ-loop
-dot-eights-requires c κs = c .pre
+dot-blocks-requires : tie.Need-dot-blocks-requires Inv-loop μ-loop
+dot-blocks-requires c κs = c .pre
 
 mul-i : tie.Need-mul-i Inv-loop μ-loop
 mul-i c = omega arith
@@ -36,7 +36,7 @@ mul-i c = omega arith
 loop-holds : tie.Need-loop-holds Inv-loop μ-loop
 loop-holds c =
     let start : Start = search in
-    record { same = start .pre .0; small = start .pre .1; within = omega arith; is = ap (ofZ w32) (c .dot-eights .ensures) }
+    record { same = start .pre .0; small = start .pre .1; within = omega arith; is = ap (ofZ w32) (c .dot-blocks .ensures) }
 
 mul-times : tie.Need-mul-times Inv-loop μ-loop
 mul-times c = omega arith
@@ -92,7 +92,7 @@ dot-spec =
     (tie.spec
     Inv-loop
     μ-loop
-    dot-eights-requires
+    dot-blocks-requires
     mul-i
     loop-holds
     mul-times

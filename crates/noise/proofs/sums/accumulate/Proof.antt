@@ -2,7 +2,7 @@
 -- Assumes nothing.
 use mathlib.Core.Path.{_≡_, sym, ap, _∙_}
 use mathlib.Core.List.{List}
-use Prim.Native.Nat.{ℕ, _+_, _-_, _≤_}
+use Prim.Native.Nat.{ℕ, _+_, _-_, _^_, _≤_}
 use native.Mathlib.Nat.{le-trans}
 use native.Mathlib.Omega.{arith}
 use borrow.Author.Needs.{needs}
@@ -16,7 +16,7 @@ use Rattle.kindi.specs.Params.{width, paddedLength}
 use Rattle.kindi.specs.Streams.{smallIn}
 use Rattle.vectors.proofs.Amounts.{width-bound, within, part-length}
 use Rattle.noise.proofs.Products.{errors-size, rest-size, largest-table}
-use Rattle.noise.proofs.Bounds.{noiseMost, small-sized, error-sized}
+use Rattle.noise.proofs.Bounds.{noiseMost, small-sized, error-sized, product-most}
 use Rattle.noise.proofs.Streams.{accumulated}
 use Rattle.noise.proofs.sums.accumulate.Statement.{statement}
 use Rattle.noise.proofs.sums.accumulate.Tie as tie
@@ -50,7 +50,7 @@ sum-long c =
     let start : tie.Start = search in
     c .add-errors .kept .1 .1 .1 .1 .1 .0 ∙ ap length (start .pre .3) ∙ length-replicate (start .args .p .n) (pos 0)
 
-errors-small : (c : tie.After-add-errors) → largest (c .add-errors .last .1 .1 .1 .1 .1 .0) ≤ 262144
+errors-small : (c : tie.After-add-errors) → largest (c .add-errors .last .1 .1 .1 .1 .1 .0) ≤ 2 ^ 26
 errors-small c =
     let start : tie.Start = search in
     let after-low : tie.After-low = search in
@@ -60,7 +60,7 @@ errors-small c =
     let W = start .pre .0 .well in
     let mid : List ℕ = take (after-low .low .result + after-padded .padded .result - after-low .low .result)
     (drop (after-low .low .result) (now (a .stream))) in
-    errors-size (p .l) (p .n) (noiseMost p) (p .p) (smallIn p mid) (smallIn p (now (a .secrets))) (start .pre .3) (W .few) (W .noise-words)
+    errors-size (p .l) (p .n) (noiseMost p) (p .p) (smallIn p mid) (smallIn p (now (a .secrets))) (start .pre .3) (W .few) (product-most p W)
     (error-sized p W mid) (small-sized p W (now (a .secrets))) (c .add-errors .ensures)
 
 last-small : (c : tie.After-small) → largest (c .small .last .1 .1 .1 .0) ≤ 64

@@ -10,8 +10,8 @@ use Rattle.bits.proofs.Filling.{turn-less}
 use Rattle.kindi.specs.Params.{width}
 use Rattle.kindi.specs.Streams.{smallIn}
 use Rattle.vectors.proofs.Amounts.{width-bound, within}
-use Rattle.noise.proofs.Products.{partial, partial-none, partial-more, factors}
-use Rattle.noise.proofs.Bounds.{noiseMost, small-sized, error-sized, some-small, some-noise}
+use Rattle.noise.proofs.Products.{partial, partial-none, partial-more, summable}
+use Rattle.noise.proofs.Bounds.{noiseMost, small-sized, error-sized, product-most}
 use Rattle.noise.proofs.sums.add_errors.Statement.{statement}
 use Rattle.noise.proofs.sums.add_errors.Tie as tie
 
@@ -85,8 +85,8 @@ multiply-add-requires c κs =
     let pre = start .pre .0 in
     let W = pre .well in
     let h = turn .loop in
-    factors (p .l) (p .n) (noiseMost p) (p .p) (now (a .acc)) (smallIn p (now (a .masked))) (smallIn p (now (a .secrets))) (h .j)
-    (omega arith) (W .few) (W .some-coefficients) (W .short) (some-noise p W) (some-small p W) (W .noise-words) (pre .small)
+    summable (p .l) (p .n) (noiseMost p) (p .p) (now (a .acc)) (smallIn p (now (a .masked))) (smallIn p (now (a .secrets))) (h .j)
+    (omega arith) (W .few) (W .short) (W .small-secrets) (product-most p W) (pre .small)
     (error-sized p W (now (a .masked))) (small-sized p W (now (a .secrets)))
     (h .inv .3) (after-small .small .ensures) (after-small2 .small2 .ensures)
 

@@ -9,8 +9,8 @@ use Rattle.keccak.proofs.Entries.{length-tabulate}
 use Rattle.bits.proofs.Filling.{turn-less}
 use Rattle.kindi.specs.Streams.{ephemeralBy}
 use Rattle.noise.specs.Terms.{keyNoiseIn}
-use Rattle.noise.proofs.Products.{partial, partial-none, partial-more, factors}
-use Rattle.noise.proofs.Bounds.{noiseMost, key-noise-sized, ephemeral-sized, some-small, some-noise}
+use Rattle.noise.proofs.Products.{partial, partial-none, partial-more, summable}
+use Rattle.noise.proofs.Bounds.{noiseMost, key-noise-sized, ephemeral-sized, product-most}
 use Rattle.noise.proofs.sums.add_keys.Statement.{statement}
 use Rattle.noise.proofs.sums.add_keys.Tie as tie
 
@@ -84,9 +84,9 @@ multiply-add-requires c κs =
     let pre = start .pre .0 in
     let W = pre .well in
     let h = turn .loop in
-    factors (p .l) (p .n) (noiseMost p) (p .p) (now (a .acc)) (keyNoiseIn p (now (a .stream)) (now (a .secrets)) (now (a .b)))
-    (ephemeralBy p (now (a .coins)) (now (a .high)) (now (a .rest))) (h .i) (omega arith) (W .few) (W .some-coefficients) (W .short)
-    (some-noise p W) (some-small p W) (W .noise-words) (pre .small)
+    summable (p .l) (p .n) (noiseMost p) (p .p) (now (a .acc)) (keyNoiseIn p (now (a .stream)) (now (a .secrets)) (now (a .b)))
+    (ephemeralBy p (now (a .coins)) (now (a .high)) (now (a .rest))) (h .i) (omega arith) (W .few) (W .short) (W .small-secrets)
+    (product-most p W) (pre .small)
     (key-noise-sized p W (now (a .stream)) (now (a .secrets)) (now (a .b)))
     (ephemeral-sized p W (now (a .coins)) (now (a .high)) (now (a .rest))) (h .inv .3) (after-key-noise .key-noise .ensures)
     (after-ephemeral .ephemeral .ensures)

@@ -1,0 +1,2 @@
+-- What demand 3 is said of.
+pub mod Leaves

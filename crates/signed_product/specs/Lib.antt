@@ -1,3 +1,0 @@
--- What the contracts of `signed_product` say.
-pub mod Toeplitz
-pub mod Halves
