@@ -1,6 +1,7 @@
--- Demand 3, of what the calls of `src/lib.rt` leave, for every set number. A call is made with outputs of the stated lengths and a work
--- area that is long enough (`specs/Leaves.antt`); P is the parameter record of the set, and a theorem that speaks of a status asks
--- nothing of a key, a ciphertext, coins or a message but that they are bytes, which every slice is (`Below 256`). Assumes nothing.
+-- Demand 3, of what the calls of `src/lib.rt` leave. Each record of `specs/Leaves.antt` says that a call was made, with outputs of the
+-- stated lengths and a work area that is long enough, and what it left. P is the parameter record of the set; the set may be any
+-- number. Of a ciphertext, coins or a message nothing is asked but that it is bytes, `Below 256`, which every slice is; of a key
+-- nothing, and of no length anything. Assumes nothing.
 use mathlib.Core.Path.{_≡_, refl}
 use mathlib.Core.Bool.{true}
 use mathlib.Core.List.{List}
@@ -58,7 +59,7 @@ module _ (set : ℕ) where
             Left.decaps-leaves set (made .0) (iff .back (record { coins = again .0; recovered = again .1; again = made .1 })) call;
       }
 
-  -- In both it is one call as good as another: where a call of encryption or encapsulation returned 0, every call of the same inputs
+  -- In both, one call is as good as another: where a call of encryption or encapsulation returned 0, every call of the same inputs
   -- returns 0 and leaves the same.
   pub encrypt-call-one : {pk coins message ct : List ℕ} {status : ℕ} {ct' : List ℕ} → EncryptLeaves set pk coins message 0 ct
       → EncryptLeaves set pk coins message status ct' → (status ≡ 0) × (ct' ≡ ct)
