@@ -6,6 +6,7 @@ use mathlib.Core.List.{List}
 use Prim.Native.Nat.{ℕ, _-_, _≤_, _<_}
 use native.Mathlib.Omega.{arith}
 use borrow.Author.Tests.{eq-eqb, le-leb, not-false}
+use lib.Dec.{lit<}
 use Rattle.kindi.specs.declared.Params.{Params}
 use Rattle.kindi.specs.Params.{isSet, ofSet, publicLength, secretLength, ciphertextLength, paddedLength, keygenWork, encryptWork, decryptWork, noiseWork}
 use Rattle.kindi.specs.Decrypt.{Ending, blank, marked, other}
@@ -61,94 +62,101 @@ module _ (set : ℕ) (there : isSet set ≡ true) where
 
 -- ---- 0 is success
 
--- No refusal has the number 0.
-abbrev Proper : {A : Type 0} → Answer A → Type 0
-Proper a = (n : ℕ) → a ≡ refused n → 0 < n
-
--- So of success.
-proper-answered : {A : Type 0} (x : A) → Proper (answered x)
-proper-answered x n e = never (cc)
-
--- So of a check and what comes next.
-proper-if : {A : Type 0} (bad : Bool) (number : ℕ) (next : Answer A) → 0 < number → Proper next → Proper (refuseIf bad number next)
-unfolding refuseIf
-proper-if true number next h rest n e = let same : number ≡ n = cc in omega arith
-proper-if false number next h rest n e = rest n e
-
--- So of an answer and what comes after it.
-proper-then : {A B : Type 0} (first : Answer A) (next : A → Answer B) → Proper first → ((a : A) → Proper (next a)) → Proper (then first next)
-unfolding then
-proper-then (refused number) next h rest n e = h n (cc)
-proper-then (answered a) next h rest n e = rest a n e
-
--- So of the end of a padded message, and of the recovered coins.
-proper-plain : (coins : List ℕ) (e : Ending) → Proper (plain coins e)
-unfolding plain
-proper-plain coins blank n e = let same : 6 ≡ n = cc in omega arith
-proper-plain coins (marked message) n e = never (cc)
-proper-plain coins other n e = let same : 6 ≡ n = cc in omega arith
-
-proper-recovered : (P : Params) (sk ct : List ℕ) → Proper (recoveredCoins P sk ct)
-unfolding recoveredCoins
-proper-recovered P sk ct = proper-if _ 2 _ (omega arith) (proper-if _ 2 _ (omega arith) (proper-answered _))
-
 -- An answer whose number is 0 has values.
-answered-zero : {A : Type 0} (a : Answer A) → Proper a → number a ≡ 0 → (x : A) × (a ≡ answered x)
-unfolding number
-answered-zero (refused n) h e = let some : 0 < n = h n refl in absurd (omega arith)
-answered-zero (answered x) h e = (x, refl)
+abbrev pub Proper : {A : Type 0} → Answer A → Type 0
+Proper {A} answer = number answer ≡ 0 → (v : A) × (answer ≡ answered v)
 
--- A call by set number whose number is 0 is of a set that there is, and has values.
+-- Values are such an answer.
+proper-answered : {A : Type 0} (v : A) → Proper (answered v)
+proper-answered v e = (v, refl)
+
+-- So is a check, whose number is above 0, before one that is.
+proper-check : {A : Type 0} (bad : Bool) (n : ℕ) (next : Answer A) → 0 < n → Proper next → Proper (refuseIf bad n next)
+unfolding refuseIf number
+proper-check true n next some p e = absurd (omega arith)
+proper-check false n next some p e = p e
+
+-- So are two of them, one after the other.
+proper-then : {A B : Type 0} (first : Answer A) (next : A → Answer B) → Proper first → ((a : A) → Proper (next a))
+    → Proper (then first next)
+unfolding then number
+proper-then (refused n) next p q e =
+    let not-so = p e .1 in
+    never (cc)
+proper-then (answered a) next p q e = q a e
+
+-- So is what the ending of a padded message gives.
+proper-plain : (coins : List ℕ) (end : Ending) → Proper (plain coins end)
+unfolding plain number
+proper-plain coins blank e = absurd (omega arith)
+proper-plain coins (marked message) e = (record { coins = coins; message = message }, refl)
+proper-plain coins other e = absurd (omega arith)
+
+-- So is each call's answer, with room or without.
+module _ (P : Params) (room : Bool) where
+  pub keygen-proper : (μ γ z : List ℕ) → Proper (keygen P room μ γ z)
+  unfolding keygen
+  keygen-proper μ γ z = search (proper-check, proper-answered, lit<) depth 9
+
+  pub encrypt-proper : (pk coins message : List ℕ) → Proper (encrypt P room pk coins message)
+  unfolding encrypt
+  encrypt-proper pk coins message = search (proper-check, proper-answered, lit<) depth 9
+
+  pub encaps-proper : (pk coins : List ℕ) → Proper (encaps P room pk coins)
+  unfolding encaps
+  encaps-proper pk coins = search (proper-check, proper-answered, lit<) depth 9
+
+  pub decrypt-proper : (sk ct : List ℕ) → Proper (decrypt P room sk ct)
+  unfolding decrypt recoveredCoins
+  decrypt-proper sk ct = search (proper-then, proper-check, proper-answered, proper-plain, lit<) depth 9
+
+  pub decaps-proper : (sk ct : List ℕ) → Proper (decaps P room sk ct)
+  unfolding decaps recoveredCoins
+  decaps-proper sk ct = search (proper-then, proper-check, proper-answered, lit<) depth 9
+
+  pub noise-proper : (sk coins message : List ℕ) → Proper (noiseOf P room sk coins message)
+  unfolding noiseOf
+  noise-proper sk coins message = search (proper-check, proper-answered, lit<) depth 9
+
+-- A call by set number that returns 0 is of a set that there is, and has values.
 abbrev pub Succeeded : {A : Type 0} → ℕ → Answer A → Type 0
-Succeeded {A} set a = (isSet set ≡ true) × ((x : A) × (a ≡ answered x))
+Succeeded {A} set answer = (isSet set ≡ true) × ((v : A) × (answer ≡ answered v))
 
 succeeded : {A : Type 0} (set : ℕ) (answer : Params → Answer A) → Proper (answer (ofSet set)) → number (inSet set answer) ≡ 0
     → Succeeded set (inSet set answer)
 unfolding inSet
-succeeded set answer h e =
-    let a = answered-zero _ (proper-if _ 1 _ (omega arith) h) e in
+succeeded set answer p e =
+    let a = proper-check _ 1 _ (omega arith) p e in
     (not-false _ (passed _ 1 (a .1) .0), a)
 
--- So each call that returns 0 has answered, whatever it was given.
+-- So of each call, whatever it was given.
 module _ (set : ℕ) where
   pub keygen-zero : (μ γ z : List ℕ) (a b w : ℕ) → number (keygenCall set μ γ z a b w) ≡ 0
       → Succeeded set (keygenCall set μ γ z a b w)
-  unfolding keygenCall keygen
-  keygen-zero μ γ z a b w =
-      succeeded set _ (proper-if _ 2 _ (omega arith) (proper-if _ 2 _ (omega arith)
-      (proper-if _ 2 _ (omega arith) (proper-if _ 4 _ (omega arith) (proper-answered _)))))
+  unfolding keygenCall
+  keygen-zero μ γ z a b w = succeeded set _ (keygen-proper (ofSet set) _ μ γ z)
 
   pub encrypt-zero : (pk coins message : List ℕ) (a w : ℕ) → number (encryptCall set pk coins message a w) ≡ 0
       → Succeeded set (encryptCall set pk coins message a w)
-  unfolding encryptCall encrypt
-  encrypt-zero pk coins message a w =
-      succeeded set _ (proper-if _ 2 _ (omega arith) (proper-if _ 2 _ (omega arith)
-      (proper-if _ 3 _ (omega arith) (proper-if _ 4 _ (omega arith) (proper-answered _)))))
+  unfolding encryptCall
+  encrypt-zero pk coins message a w = succeeded set _ (encrypt-proper (ofSet set) _ pk coins message)
 
   pub encaps-zero : (pk coins : List ℕ) (a b w : ℕ) → number (encapsCall set pk coins a b w) ≡ 0
       → Succeeded set (encapsCall set pk coins a b w)
-  unfolding encapsCall encaps
-  encaps-zero pk coins a b w =
-      succeeded set _ (proper-if _ 2 _ (omega arith) (proper-if _ 2 _ (omega arith)
-      (proper-if _ 4 _ (omega arith) (proper-answered _))))
+  unfolding encapsCall
+  encaps-zero pk coins a b w = succeeded set _ (encaps-proper (ofSet set) _ pk coins)
 
   pub decrypt-zero : (sk ct : List ℕ) (a b w : ℕ) → number (decryptCall set sk ct a b w) ≡ 0
       → Succeeded set (decryptCall set sk ct a b w)
-  unfolding decryptCall decrypt
-  decrypt-zero sk ct a b w =
-      succeeded set _ (proper-then _ _ (proper-recovered (ofSet set) sk ct) (λ coins.
-      proper-if _ 4 _ (omega arith) (proper-if _ 5 _ (omega arith) (proper-plain coins _))))
+  unfolding decryptCall
+  decrypt-zero sk ct a b w = succeeded set _ (decrypt-proper (ofSet set) _ sk ct)
 
   pub decaps-zero : (sk ct : List ℕ) (a w : ℕ) → number (decapsCall set sk ct a w) ≡ 0
       → Succeeded set (decapsCall set sk ct a w)
-  unfolding decapsCall decaps
-  decaps-zero sk ct a w =
-      succeeded set _ (proper-then _ _ (proper-recovered (ofSet set) sk ct) (λ coins.
-      proper-if _ 4 _ (omega arith) (proper-if _ 5 _ (omega arith) (proper-if _ 7 _ (omega arith) (proper-answered _)))))
+  unfolding decapsCall
+  decaps-zero sk ct a w = succeeded set _ (decaps-proper (ofSet set) _ sk ct)
 
   pub noise-zero : (sk coins message : List ℕ) (w : ℕ) → number (noiseCall set sk coins message w) ≡ 0
       → Succeeded set (noiseCall set sk coins message w)
-  unfolding noiseCall noiseOf
-  noise-zero sk coins message w =
-      succeeded set _ (proper-if _ 2 _ (omega arith) (proper-if _ 2 _ (omega arith)
-      (proper-if _ 3 _ (omega arith) (proper-if _ 4 _ (omega arith) (proper-if _ 8 _ (omega arith) (proper-answered _))))))
+  unfolding noiseCall
+  noise-zero sk coins message w = succeeded set _ (noise-proper (ofSet set) _ sk coins message)

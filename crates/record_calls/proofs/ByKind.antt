@@ -1,26 +1,27 @@
 -- Each kind: its record gives what its call leaves, where the checks before the call fail and where they pass. Assumes nothing.
-use mathlib.Core.Path.{_≡_, refl, ap, _∙_}
+use mathlib.Core.Path.{_≡_, refl, sym, ap, _∙_}
 use mathlib.Core.Bool.{true}
 use mathlib.Core.List.{List, _++_}
 use Prim.Native.Nat.{ℕ, _+_, _-_, _*_, _≤_}
 use native.Mathlib.Omega.{arith}
 use borrow.Author.Tests.{ne-eqb}
-use lib.Dec.{ltb, lit<}
+use lib.Dec.{ltb}
 use lib.ListN.{length, take, drop, replicate, length-append}
 use lib.Seq.{length-take-le}
 use Rattle.keccak.proofs.Parts.{take-rest}
 use Rattle.kindi.specs.declared.Params.{Params}
 use Rattle.kindi.specs.Params.{Parameters, publicLength, secretLength, ciphertextLength, paddedLength, keygenWork, encryptWork, decryptWork}
-use Rattle.kindi.specs.Answers.{Answer, refused, answered, differs, Keys, Plain, Shared, keygen, encrypt, encaps, recoveredCoins, decrypt, decaps}
+use Rattle.kindi.specs.Answers.{Answer, refused, answered, differs, Keys, Plain, Shared, keygen, encrypt, encaps, decrypt, decaps}
 use Rattle.kindi.specs.Calls.{number, output, returned, messageOutput}
 use Rattle.kindi.proofs.Called.{keygen-called, encrypt-called, encaps-called, decrypt-called, decaps-called}
+use Rattle.kindi.proofs.Called.{keygen-proper, encrypt-proper, encaps-proper, decrypt-proper, decaps-proper}
+use Rattle.calls.proofs.Checked.{given-returned}
 use Rattle.encryption_calls.specs.Exits.{KeygenExit, EncryptExit, EncapsExit}
 use Rattle.decryption_calls.specs.Exits.{DecryptExit, DecapsExit}
 use Rattle.record_calls.specs.declared.Outcome.{Outcome}
 use Rattle.record_calls.specs.Bodies.{onePart, twoParts, keygenBody, encryptBody, decryptBody, encapsBody, decapsBody, kindBody}
 use Rattle.record_calls.specs.Bodies.{bodyBytes, wrongLength, recordParts}
 use Rattle.record_calls.specs.Outputs.{OutcomeOf, workBytes, recordWork, AnswerExit}
-use Rattle.record_calls.proofs.Outcomes.{Proper, proper-answered, proper-check, proper-then, proper-plain}
 use Rattle.record_calls.proofs.Outcomes.{Lent, lent-length, lent-after, no-zeros, untouched, wiped-front, gives, early, early-gives, Ready, ready-gives}
 
 -- ---- lent parts
@@ -34,11 +35,6 @@ enough : (a : ℕ) (buffer : List ℕ) {n : ℕ} → a ≡ n → a ≤ length bu
 enough a buffer e fits = omega (arith, asked a buffer e fits)
 
 -- ---- 1, keygen
-
--- Its success has keys.
-keygen-proper : (P : Params) (μ γ z : List ℕ) → Proper (keygen P true μ γ z)
-unfolding keygen
-keygen-proper P μ γ z = search (proper-check, proper-answered, lit<) depth 9
 
 -- A check before the call fails: the record is refused with its status.
 pub keygen-early : (body : List ℕ) {set status m n : ℕ} {P : Params} {first second work : List ℕ} {r : Outcome}
@@ -70,18 +66,13 @@ keygen-gives {set} {a} {b} {w} {P = P} {body} {first} {second} {work} {pk'} {sk'
     let pk : Lent _ (λ (keys : Keys). keys .publicKey) a first pk' = record { fits = fa; kept = kept-pk; is = left .public } in
     let sk : Lent _ (λ (keys : Keys). keys .secretKey) b second sk' = record { fits = fb; kept = kept-sk; is = left .secret } in
     ready-gives 1 ok refl
-    (gives (keygen P true μ γ z) (λ keys. twoParts (keys .publicKey) (keys .secretKey)) (keygen-proper P μ γ z)
+    (gives (keygen P true μ γ z) (λ keys. twoParts (keys .publicKey) (keys .secretKey)) (keygen-proper P true μ γ z)
     (left .returned ∙ ap number called) o (omega arith) (omega arith)
     (λ v e. lent-length pk (called ∙ e)) (λ v e. lent-length sk (called ∙ e))
     (lent-after pk _ called) (lent-after sk _ called ∙ no-zeros _ _ second)
     (wiped-front set w _ work (ok .there) ew fw (rw (← ok .are) at (left .wiped))))
 
 -- ---- 2, encrypt
-
--- Its success has a ciphertext.
-encrypt-proper : (P : Params) (pk coins message : List ℕ) → Proper (encrypt P true pk coins message)
-unfolding encrypt
-encrypt-proper P pk coins message = search (proper-check, proper-answered, lit<) depth 9
 
 -- A check before the call fails; s is the length of the public key.
 pub encrypt-early : (body : List ℕ) {set s status m n : ℕ} {P : Params} {first second work : List ℕ} {r : Outcome}
@@ -111,17 +102,12 @@ encrypt-gives {set} {s} {a} {w} {P = P} {body} {first} {second} {work} {ct'} ok 
     (enough w work ew fw) in
     let ct : Lent _ (λ c. c) a first ct' = record { fits = fa; kept = kept-ct; is = left .ciphertext } in
     ready-gives 2 (rw es at ok) refl
-    (gives (encrypt P true pk coins message) onePart (encrypt-proper P pk coins message)
+    (gives (encrypt P true pk coins message) onePart (encrypt-proper P true pk coins message)
     (left .returned ∙ ap number called) o (omega arith) (omega arith)
     (λ v e. lent-length ct (called ∙ e)) (λ v e. refl) (lent-after ct _ called) (untouched _ second)
     (wiped-front set w _ work (ok .there) ew fw (rw (← ok .are) at (left .wiped))))
 
 -- ---- 3, decrypt
-
--- Its success has coins and a message.
-decrypt-proper : (P : Params) (sk ct : List ℕ) → Proper (decrypt P true sk ct)
-unfolding decrypt recoveredCoins
-decrypt-proper P sk ct = search (proper-then, proper-check, proper-answered, proper-plain, lit<) depth 9
 
 -- The length of a message that is in its output.
 message-fits : (answer : Answer Plain) (room m : ℕ) (entry : List ℕ) {exit : List ℕ} {len : ℕ}
@@ -135,8 +121,7 @@ message-fits (answered v) room m entry is out h =
 -- It is the message's, where the call answers v.
 message-length : {call : Answer Plain} {len : ℕ} {v : Plain} → len ≡ returned call (λ opened. length (opened .message))
     → call ≡ answered v → len ≡ length (v .message)
-unfolding returned
-message-length is same = is ∙ rw same refl
+message-length is same = is ∙ sym (given-returned (λ (opened : Plain). length (opened .message)) same)
 
 -- A check before the call fails; s and t are the lengths of the secret key and of the ciphertext.
 pub decrypt-early : (body : List ℕ) {set s t status m n : ℕ} {P : Params} {first second work : List ℕ} {r : Outcome}
@@ -176,18 +161,13 @@ decrypt-gives {set} {s} {t} {b} {w} {P = P} {body} {first} {second} {work} {coin
       second = opened .message;
       zeros = paddedLength P - 1 - length (opened .message);
     })
-    (decrypt-proper P sk ct) (left .number-is ∙ ap number called) o (omega arith)
+    (decrypt-proper P true sk ct) (left .number-is ∙ ap number called) o (omega arith)
     (message-fits _ _ 5120 _ (left .length-is) (left .message-is) (omega (arith, kept-m, room)))
     (λ v e. lent-length coins (called ∙ e)) (λ v e. message-length (left .length-is) (called ∙ e))
     (lent-after coins _ called) (rw room at (lent-after message _ called))
     (wiped-front set w _ work (ok .there) ew fw (rw (← ok .are) at (left .wiped))))
 
 -- ---- 4, encaps
-
--- Its success has a key and a ciphertext.
-encaps-proper : (P : Params) (pk coins : List ℕ) → Proper (encaps P true pk coins)
-unfolding encaps
-encaps-proper P pk coins = search (proper-check, proper-answered, lit<) depth 9
 
 -- A check before the call fails; s is the length of the public key.
 pub encaps-early : (body : List ℕ) {set s status m n : ℕ} {P : Params} {first second work : List ℕ} {r : Outcome}
@@ -217,18 +197,13 @@ encaps-gives {set} {s} {b} {w} {P = P} {body} {first} {second} {work} {key'} {ct
     let key : Lent _ (λ (shared : Shared). shared .key) (P .coins) first key' = record { fits = fa; kept = kept-key; is = left .key-is } in
     let ct : Lent _ (λ (shared : Shared). shared .ciphertext) b second ct' = record { fits = fb; kept = kept-ct; is = left .ciphertext } in
     ready-gives 4 (rw es at ok) refl
-    (gives (encaps P true pk coins) (λ shared. twoParts (shared .key) (shared .ciphertext)) (encaps-proper P pk coins)
+    (gives (encaps P true pk coins) (λ shared. twoParts (shared .key) (shared .ciphertext)) (encaps-proper P true pk coins)
     (left .returned ∙ ap number called) o (omega arith) (omega arith)
     (λ v e. lent-length key (called ∙ e)) (λ v e. lent-length ct (called ∙ e))
     (lent-after key _ called) (lent-after ct _ called ∙ no-zeros _ _ second)
     (wiped-front set w _ work (ok .there) ew fw (rw (← ok .are) at (left .wiped))))
 
 -- ---- 5, decaps
-
--- Its success has a key.
-decaps-proper : (P : Params) (sk ct : List ℕ) → Proper (decaps P true sk ct)
-unfolding decaps recoveredCoins
-decaps-proper P sk ct = search (proper-then, proper-check, proper-answered, lit<) depth 9
 
 -- A check before the call fails; s and t are the lengths of the secret key and of the ciphertext.
 pub decaps-early : (body : List ℕ) {set s t status m n : ℕ} {P : Params} {first second work : List ℕ} {r : Outcome}
@@ -256,7 +231,7 @@ decaps-gives {set} {s} {t} {w} {P = P} {body} {first} {second} {work} {key'} ok 
     (enough w work ew fw) in
     let key : Lent _ (λ k. k) (P .coins) first key' = record { fits = fa; kept = kept-key; is = left .key-is } in
     ready-gives 5 (rw (es, et) at ok) refl
-    (gives (decaps P true sk ct) onePart (decaps-proper P sk ct)
+    (gives (decaps P true sk ct) onePart (decaps-proper P true sk ct)
     (left .number-is ∙ ap number called) o (omega arith) (omega arith)
     (λ v e. lent-length key (called ∙ e)) (λ v e. refl) (lent-after key _ called) (untouched _ second)
     (wiped-front set w _ work (ok .there) ew fw (rw (← ok .are) at (left .wiped))))

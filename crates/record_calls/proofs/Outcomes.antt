@@ -1,9 +1,9 @@
--- From what a call leaves to what its record gives: success has values, the lent parts of the buffers, the checks before the call,
--- and the output in two parts. Assumes nothing.
+-- From what a call leaves to what its record gives: the lent parts of the buffers, the checks before the call, and the output in two
+-- parts. Assumes nothing.
 use mathlib.Core.Path.{_≡_, refl, sym, ap, ap₂, _∙_}
 use mathlib.Core.Bool.{Bool, true, false, cond, not, _&&_}
 use mathlib.Core.List.{List, [], _++_, append-assoc, append-nil}
-use Prim.Native.Nat.{ℕ, _≤_, _<_}
+use Prim.Native.Nat.{ℕ, _≤_}
 use native.Mathlib.Omega.{arith}
 use borrow.Author.Tests.{eq-eqb, ne-eqb, ltb-false}
 use lib.Dec.{ltb}
@@ -11,53 +11,16 @@ use lib.ListN.{length, take, drop, replicate, length-replicate, take-append-drop
 use lib.Seq.{length-take-le, take-append-seam}
 use Rattle.kindi.specs.declared.Params.{Params}
 use Rattle.kindi.specs.Params.{Parameters, isSet, ofSet}
-use Rattle.kindi.specs.Decrypt.{Ending, blank, marked, other}
-use Rattle.kindi.specs.Answers.{Answer, refused, answered, refuseIf, then, differs, plain}
+use Rattle.kindi.specs.Answers.{Answer, refused, answered, refuseIf, then, differs}
 use Rattle.kindi.specs.Calls.{number, output, returned, workAfter, inSet}
 use Rattle.kindi.proofs.Chains.{never, same-length}
-use Rattle.calls.proofs.Ends.{work-wiped}
+use Rattle.kindi.proofs.Called.{Proper}
+use Rattle.calls.proofs.Ends.{given as Ends·given, work-wiped}
 use Rattle.record_calls.specs.declared.Outcome.{Outcome}
 use Rattle.record_calls.specs.Bodies.{Parts, kindBody, wrongLength, recordParts, joined}
 use Rattle.record_calls.specs.Outputs.{firstMost, secondMost, Room, OutcomeOf, withFront, firstAfter, secondAfter, workBytes, recordWork}
 use Rattle.record_calls.specs.Outputs.{Gives, AnswerExit}
 use Rattle.record_calls.proofs.Sizes.{Sized, sized}
-
--- ---- success has values
-
--- An answer whose number is 0 has values.
-abbrev pub Proper : {A : Type 0} → Answer A → Type 0
-Proper {A} answer = number answer ≡ 0 → (v : A) × (answer ≡ answered v)
-
--- Values are such an answer.
-pub proper-answered : {A : Type 0} (v : A) → Proper (answered v)
-proper-answered v e = (v, refl)
-
--- So is a refusal, since its number is not 0.
-proper-refused : {A : Type 0} (n : ℕ) → (n ≡ 0 → ⊥) → Proper {A = A} (refused n)
-unfolding number
-proper-refused n some e = absurd (some e)
-
--- So is a check, whose number is above 0, before one that is.
-pub proper-check : {A : Type 0} (bad : Bool) (n : ℕ) (next : Answer A) → 0 < n → Proper next → Proper (refuseIf bad n next)
-unfolding refuseIf
-proper-check true n next some p = proper-refused n (λ e. omega arith)
-proper-check false n next some p = p
-
--- So are two of them, one after the other.
-pub proper-then : {A B : Type 0} (first : Answer A) (next : A → Answer B) → Proper first → ((a : A) → Proper (next a))
-    → Proper (then first next)
-unfolding then number
-proper-then (refused n) next p q e =
-    let not-so = p e .1 in
-    never (cc)
-proper-then (answered a) next p q e = q a e
-
--- So is what the ending of a padded message gives.
-pub proper-plain : (coins : List ℕ) (end : Ending) → Proper (plain coins end)
-unfolding plain number
-proper-plain coins blank e = absurd (omega arith)
-proper-plain coins (marked message) e = (record { coins = coins; message = message }, refl)
-proper-plain coins other e = absurd (omega arith)
 
 -- ---- the lent parts of the buffers
 
@@ -70,8 +33,7 @@ pub record Lent {A : Type 0} (call : Answer A) (value : A → List ℕ) (a : ℕ
 module _ {A : Type 0} {call : Answer A} {value : A → List ℕ} {a : ℕ} {buffer part : List ℕ} (lent : Lent call value a buffer part) where
   -- They are the value where the call answers v.
   given : {v : A} → call ≡ answered v → part ≡ value v
-  unfolding output
-  given same = lent .is ∙ rw same refl
+  given same = lent .is ∙ sym (Ends·given value (take a buffer) same)
 
   -- And as many.
   pub lent-length : {v : A} → call ≡ answered v → a ≡ length (value v)

@@ -9,24 +9,12 @@ use lib.ListN.{length, take, replicate, length-replicate}
 use lib.Seq.{take-append-seam}
 use Rattle.kindi.specs.declared.Params.{Params}
 use Rattle.kindi.specs.Params.{isSet, ofSet, ciphertextLength, encryptWork}
-use Rattle.kindi.specs.Answers.{Answer, answered, Keys, Plain, Shared, Size, keygen, encrypt, encaps, decrypt, decaps, noiseOf}
-use Rattle.kindi.specs.Calls.{number, output, returned, workAfter, messageOutput}
+use Rattle.kindi.specs.Answers.{answered, Keys, Plain, Shared, Size, keygen, encrypt, encaps, decrypt, decaps, noiseOf}
+use Rattle.kindi.specs.Calls.{workAfter, messageOutput}
 use Rattle.kindi.proofs.Called as Called
+use Rattle.calls.proofs.Ends.{given}
+use Rattle.calls.proofs.Checked.{answered-number, given-returned}
 use Rattle.scheme.specs.Leaves.{KeygenLeaves, EncryptLeaves, EncapsLeaves, DecryptLeaves, DecapsLeaves, NoiseLeaves, IsPair}
-
--- ---- values of an answer
-
-number-of : {A : Type 0} {a : Answer A} {x : A} → a ≡ answered x → number a ≡ 0
-unfolding number
-number-of e = rw e refl
-
-output-of : {A : Type 0} {a : Answer A} {x : A} (value : A → List ℕ) (entry : List ℕ) → a ≡ answered x → output a value entry ≡ value x
-unfolding output
-output-of value entry e = rw e refl
-
-returned-of : {A : Type 0} {a : Answer A} {x : A} (value : A → ℕ) → a ≡ answered x → returned a value ≡ value x
-unfolding returned
-returned-of value e = rw e refl
 
 -- Messages of one length that are shown the same are the same.
 shown-same : (room : ℕ) (m m' : List ℕ) → length m ≡ length m' → messageOutput room m ≡ messageOutput room m' → m ≡ m'
@@ -51,8 +39,8 @@ module _ (set : ℕ) where
       let success = Called.keygen-zero set μ γ z (length (left .pk)) (length (left .sk)) (length (left .work)) (sym (e .returned) ∙ zero) in
       let here = success .0 in
       let a = success .1 in
-      let public = sym (e .public ∙ output-of (λ (keys : Keys). keys .publicKey) (left .pk) (a .1)) in
-      let secret = sym (e .secret ∙ output-of (λ (keys : Keys). keys .secretKey) (left .sk) (a .1)) in (
+      let public = given (λ (keys : Keys). keys .publicKey) (left .pk) (a .1) ∙ sym (e .public) in
+      let secret = given (λ (keys : Keys). keys .secretKey) (left .sk) (a .1) ∙ sym (e .secret) in (
         here,
         sym (Called.keygen-called set here μ γ z (left .public-long) (left .secret-long) (left .work-long)) ∙ a .1
             ∙ ap₂ (λ (x y : List ℕ). answered (record { publicKey = x; secretKey = y })) public secret,
@@ -68,7 +56,7 @@ module _ (set : ℕ) where
       let a = success .1 in (
         here,
         sym (Called.encrypt-called set here pk coins message (left .cipher-long) (left .work-long)) ∙ a .1
-            ∙ ap answered (sym (e .ciphertext ∙ output-of (λ (c : List ℕ). c) (left .ct) (a .1))),
+            ∙ ap answered (given (λ (c : List ℕ). c) (left .ct) (a .1) ∙ sym (e .ciphertext)),
       )
 
   -- Where it answers, every call leaves the answer.
@@ -77,7 +65,7 @@ module _ (set : ℕ) where
   encrypt-leaves {pk} {coins} {message} here answer left =
       let e = left .exit in
       let a = Called.encrypt-called set here pk coins message (left .cipher-long) (left .work-long) ∙ answer in
-      (e .returned ∙ number-of a, e .ciphertext ∙ output-of (λ (c : List ℕ). c) (left .ct) a)
+      (e .returned ∙ sym (answered-number a), e .ciphertext ∙ sym (given (λ (c : List ℕ). c) (left .ct) a))
 
   -- And such a call can be made.
   pub encrypt-some : {pk coins message ct : List ℕ} → isSet set ≡ true → encrypt P true pk coins message ≡ answered ct
@@ -94,7 +82,7 @@ module _ (set : ℕ) where
         work' = workAfter set (encryptWork P) work;
         cipher-long = long;
         work-long = enough;
-        exit = record { returned = sym (number-of a); ciphertext = sym (output-of (λ (c : List ℕ). c) room a); wiped = refl };
+        exit = record { returned = answered-number a; ciphertext = given (λ (c : List ℕ). c) room a; wiped = refl };
       }
 
   -- encaps answered.
@@ -105,8 +93,8 @@ module _ (set : ℕ) where
       let success = Called.encaps-zero set pk coins (length (left .key)) (length (left .ct)) (length (left .work)) (sym (e .returned) ∙ zero) in
       let here = success .0 in
       let a = success .1 in
-      let key-is = sym (e .key-is ∙ output-of (λ (s : Shared). s .key) (left .key) (a .1)) in
-      let cipher-is = sym (e .ciphertext ∙ output-of (λ (s : Shared). s .ciphertext) (left .ct) (a .1)) in (
+      let key-is = given (λ (s : Shared). s .key) (left .key) (a .1) ∙ sym (e .key-is) in
+      let cipher-is = given (λ (s : Shared). s .ciphertext) (left .ct) (a .1) ∙ sym (e .ciphertext) in (
         here,
         sym (Called.encaps-called set here pk coins (left .key-long) (left .cipher-long) (left .work-long)) ∙ a .1
             ∙ ap₂ (λ (x y : List ℕ). answered (record { key = x; ciphertext = y })) key-is cipher-is,
@@ -118,9 +106,9 @@ module _ (set : ℕ) where
   encaps-leaves {pk} {coins} here answer left =
       let e = left .exit in
       let a = Called.encaps-called set here pk coins (left .key-long) (left .cipher-long) (left .work-long) ∙ answer in (
-        e .returned ∙ number-of a,
-        e .key-is ∙ output-of (λ (s : Shared). s .key) (left .key) a,
-        e .ciphertext ∙ output-of (λ (s : Shared). s .ciphertext) (left .ct) a,
+        e .returned ∙ sym (answered-number a),
+        e .key-is ∙ sym (given (λ (s : Shared). s .key) (left .key) a),
+        e .ciphertext ∙ sym (given (λ (s : Shared). s .ciphertext) (left .ct) a),
       )
 
   pub encaps-some : {pk coins key ct : List ℕ} → isSet set ≡ true
@@ -142,9 +130,9 @@ module _ (set : ℕ) where
         cipher-long = long;
         work-long = enough;
         exit = record {
-          returned = sym (number-of a);
-          key-is = sym (output-of (λ (s : Shared). s .key) key-room a);
-          ciphertext = sym (output-of (λ (s : Shared). s .ciphertext) room a);
+          returned = answered-number a;
+          key-is = given (λ (s : Shared). s .key) key-room a;
+          ciphertext = given (λ (s : Shared). s .ciphertext) room a;
           wiped = refl;
         };
       }
@@ -160,11 +148,11 @@ module _ (set : ℕ) where
       let here = success .0 in
       let a = success .1 in
       let coins-are : a .0 .coins ≡ coins =
-      sym (output-of (λ (opened : Plain). opened .coins) (left .coins) (a .1)) ∙ sym (e .coins-are) ∙ pair .coins-are in
+      given (λ (opened : Plain). opened .coins) (left .coins) (a .1) ∙ sym (e .coins-are) ∙ pair .coins-are in
       let long : length (a .0 .message) ≡ length message =
-      sym (returned-of (λ (opened : Plain). length (opened .message)) (a .1)) ∙ sym (e .length-is) ∙ pair .length-is in
+      given-returned (λ (opened : Plain). length (opened .message)) (a .1) ∙ sym (e .length-is) ∙ pair .length-is in
       let shown : messageOutput (length (left .message)) (a .0 .message) ≡ messageOutput (length (left .message)) message =
-      sym (output-of (λ (opened : Plain). messageOutput (length (left .message)) (opened .message)) (left .message) (a .1))
+      given (λ (opened : Plain). messageOutput (length (left .message)) (opened .message)) (left .message) (a .1)
       ∙ sym (e .message-is) ∙ pair .message-is ∙ ap (λ (r : ℕ). messageOutput r message) (sym (left .message-long)) in (
         here,
         sym (Called.decrypt-called set here sk ct (left .coins-long) (left .message-long) (left .work-long)) ∙ a .1
@@ -180,12 +168,12 @@ module _ (set : ℕ) where
       let e = left .exit in
       let a = Called.decrypt-called set here sk ct (left .coins-long) (left .message-long) (left .work-long) ∙ answer in
       record {
-        success = e .number-is ∙ number-of a;
-        coins-are = e .coins-are ∙ output-of (λ (opened : Plain). opened .coins) (left .coins) a;
+        success = e .number-is ∙ sym (answered-number a);
+        coins-are = e .coins-are ∙ sym (given (λ (opened : Plain). opened .coins) (left .coins) a);
         message-is = e .message-is
-            ∙ output-of (λ (opened : Plain). messageOutput (length (left .message)) (opened .message)) (left .message) a
+            ∙ sym (given (λ (opened : Plain). messageOutput (length (left .message)) (opened .message)) (left .message) a)
             ∙ ap (λ (r : ℕ). messageOutput r message) (left .message-long);
-        length-is = e .length-is ∙ returned-of (λ (opened : Plain). length (opened .message)) a;
+        length-is = e .length-is ∙ sym (given-returned (λ (opened : Plain). length (opened .message)) a);
       }
 
   -- decaps answered.
@@ -198,7 +186,7 @@ module _ (set : ℕ) where
       let a = success .1 in (
         here,
         sym (Called.decaps-called set here sk ct (left .key-long) (left .work-long)) ∙ a .1
-            ∙ ap answered (sym (e .key-is ∙ output-of (λ (k : List ℕ). k) (left .key) (a .1))),
+            ∙ ap answered (given (λ (k : List ℕ). k) (left .key) (a .1) ∙ sym (e .key-is)),
       )
 
   pub decaps-leaves : {sk ct key : List ℕ} {status : ℕ} {key' : List ℕ} → isSet set ≡ true → decaps P true sk ct ≡ answered key
@@ -206,7 +194,7 @@ module _ (set : ℕ) where
   decaps-leaves {sk} {ct} here answer left =
       let e = left .exit in
       let a = Called.decaps-called set here sk ct (left .key-long) (left .work-long) ∙ answer in
-      (e .number-is ∙ number-of a, e .key-is ∙ output-of (λ (k : List ℕ). k) (left .key) a)
+      (e .number-is ∙ sym (answered-number a), e .key-is ∙ sym (given (λ (k : List ℕ). k) (left .key) a))
 
   -- noise answered clear.
   pub noise-clear-left : {sk coins message : List ℕ} {status clear' largest' : ℕ} → NoiseLeaves set sk coins message status clear' largest'
@@ -221,6 +209,6 @@ module _ (set : ℕ) where
         (
           a .0,
           sym (Called.noise-called set here sk coins message (left .work-long)) ∙ a .1,
-          flag-true (a .0 .isClear) (sym (returned-of (λ (size : Size). cond (size .isClear) 1 0) (a .1)) ∙ sym (e .clear-is) ∙ one),
+          flag-true (a .0 .isClear) (given-returned (λ (size : Size). cond (size .isClear) 1 0) (a .1) ∙ sym (e .clear-is) ∙ one),
         ),
       )
