@@ -14,11 +14,13 @@ use lib.Dec.{eqb, leb, ltb}
 use lib.Seq.{take-suc, take-suc-set, drop-set-lt, drop-drop, getD-drop, take-append-le, drop-append-le}
 use Rattle.kindi.proofs.Chains.{both}
 use Rattle.record_calls.specs.Bodies.{recordAnswer}
+use Rattle.record_calls.specs.Outputs.{recordWork}
 use Rattle.records.specs.declared.header.Header.{Header}
 use Rattle.records.specs.declared.header.Header.the-variants.{Whole, End, Short, Unmarked, Cut, Unknown}
 use Rattle.records.specs.Header.{headerLength, longestBody, isMarked, kindOf, setOf, bodyLength, isCut, isKind}
 use Rattle.records.specs.Header.{readHeader, showsRecord}
 use Rattle.records.specs.Record.{answers, stepBy, step, consumed}
+use Rattle.records.specs.Steps.{bufferBy, stepFirst, stepSecond, stepWork}
 use Rattle.records.specs.Transcript.{Window}
 use Rattle.records.proofs.Headers.{Marked, whole-there, unknown-there}
 
@@ -162,15 +164,48 @@ module _ (window more : List ℕ) where
   unfolding step
   shown-step e = ap (stepBy (window ++ more)) (shown-header e) ∙ same-step (readHeader window) refl
 
--- A window gives the step of the whole rest.
-pub window-step : (window rest : List ℕ) → Window window rest → step window ≡ step rest
-window-step window rest w =
+  same-buffer : (after : ℕ → ℕ → List ℕ → List ℕ → List ℕ) (entry : List ℕ) (header : Header) → header ≡ readHeader window
+      → bufferBy after (window ++ more) entry header ≡ bufferBy after window entry header
+  unfolding bufferBy
+  same-buffer after entry (Whole kind set body) e =
+      ap (λ (bytes : List ℕ). after kind set bytes entry) (same-body body (whole-there window e))
+  same-buffer after entry End e = refl
+  same-buffer after entry Short e = refl
+  same-buffer after entry Unmarked e = refl
+  same-buffer after entry Cut e = refl
+  same-buffer after entry (Unknown kind body) e = refl
+
+  -- And leaves a buffer of the call as it does.
+  shown-buffer : (after : ℕ → ℕ → List ℕ → List ℕ → List ℕ) (entry : List ℕ) → showsRecord window ≡ true
+      → bufferBy after (window ++ more) entry (readHeader (window ++ more)) ≡ bufferBy after window entry (readHeader window)
+  shown-buffer after entry e =
+      ap (bufferBy after (window ++ more) entry) (shown-header e) ∙ same-buffer after entry (readHeader window) refl
+
+-- What a window that shows its record gives, whatever follows it, any window gives of the whole rest.
+of-rest : {A : Type 0} (f : List ℕ → A) (window rest : List ℕ)
+    → ((more : List ℕ) → showsRecord window ≡ true → f (window ++ more) ≡ f window) → Window window rest → f window ≡ f rest
+of-rest f window rest same w =
     ⊎-elim
     (λ e.
     let whole : window ++ drop (length window) rest ≡ rest
     = ap (λ (l : List ℕ). l ++ drop (length window) rest) (w .front) ∙ take-append-drop (length window) rest in
-    sym (shown-step window (drop (length window) rest) e) ∙ ap step whole)
-    (λ e. ap step e) (w .enough)
+    sym (same (drop (length window) rest) e) ∙ ap f whole)
+    (λ e. ap f e) (w .enough)
+
+-- A window gives the step of the whole rest.
+pub window-step : (window rest : List ℕ) → Window window rest → step window ≡ step rest
+window-step window rest = of-rest step window rest (shown-step window)
+
+-- And it leaves the buffers of the call as the whole rest does.
+pub window-buffers : (window rest first second work : List ℕ) → Window window rest
+    → (stepFirst window first ≡ stepFirst rest first) × (stepSecond window second ≡ stepSecond rest second)
+    × (stepWork window work ≡ stepWork rest work)
+unfolding stepFirst stepSecond stepWork
+window-buffers window rest first second work w = (
+  of-rest (λ l. stepFirst l first) window rest (λ more. shown-buffer window more _ first) w,
+  of-rest (λ l. stepSecond l second) window rest (λ more. shown-buffer window more _ second) w,
+  of-rest (λ l. stepWork l work) window rest (λ more. shown-buffer window more recordWork work) w,
+)
 
 -- So does one of the longest record, or longer.
 pub longest-step : (window rest : List ℕ) → window ≡ take (length window) rest → headerLength + longestBody ≤ length window
