@@ -15,7 +15,7 @@ LIB = target/staticlib/libscheme.a
 # The ring's calls for the tests and the benchmark; no part of the library.
 RING = target/staticlib/libring_calls.a
 SOURCES := crates.txt $(shell find crates -name '*.rt' -o -name '*.antt')
-EXAMPLES = target/examples/shake target/examples/programme
+EXAMPLES = target/examples/shake target/examples/programme target/examples/shop
 BENCHES = target/bench/shake target/bench/ring target/bench/scheme target/bench/stack
 BENCH_PARTS = bench/timing.c bench/timing.h bench/keccak_ref.c bench/keccak_ref.h \
 	bench/ring_ref.c bench/ring_ref.h bench/ring_calls.h bench/kindi_ref.c bench/kindi_ref.h bench/sets.h
@@ -39,9 +39,10 @@ run: $(EXAMPLES)
 	$(RT) check shake_vectors ring_vectors linkcheck
 	target/examples/shake $${TEXT:+"$$TEXT"}
 	target/examples/programme
+	target/examples/shop
 	examples/linkcheck.py
 
-target/examples/%: examples/%.c include/kindi.h $(LIB)
+target/examples/%: examples/%.c examples/shown.h include/kindi.h $(LIB)
 	@mkdir -p $(@D)
 	$(CC) $(CFLAGS) $(CPPFLAGS) $< $(LIB) -o $@
 

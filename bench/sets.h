@@ -31,4 +31,7 @@ static const struct lengths {
 /* How many coins the benchmark chooses from: as many as there may be. */
 #define LIST 8
 
+/* How many recipients it encrypts one message to: as many as there may be. */
+#define RECIPIENTS 12
+
 #endif

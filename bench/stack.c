@@ -19,9 +19,12 @@
 #define COUNT(array) (sizeof(array) / sizeof((array)[0]))
 
 static uint8_t input[1000], output[5000];
-static uint8_t mu[MOST_SEED], gamma_seed[MOST_SEED], z[MOST_SEED], coins[LIST * MOST_COINS], message[MOST_PADDED - 1];
-static uint8_t public_key[MOST_PUBLIC_KEY], secret_key[MOST_SECRET_KEY], key[MOST_COINS], ciphertext[MOST_CIPHERTEXT];
-static uint8_t work[MOST_WORK];
+static uint8_t mu[MOST_SEED], gamma_seed[MOST_SEED], z[MOST_SEED], message[MOST_PADDED - 1], work[MOST_WORK];
+static uint8_t secret_key[MOST_SECRET_KEY], key[MOST_COINS];
+
+/* A call for one recipient takes the first of each. */
+static uint8_t public_keys[RECIPIENTS * MOST_PUBLIC_KEY], coins[RECIPIENTS * MOST_COINS];
+static uint8_t ciphertexts[RECIPIENTS * MOST_CIPHERTEXT];
 
 /*
  * A call and the one that makes what it takes, besides the keys; the parameter set, which is 0 where a call
@@ -57,7 +60,7 @@ static uint32_t keygen(uint32_t set)
 {
     const struct lengths *len = &set_lengths[set - 1];
 
-    return kindi_keygen(set, mu, len->seed, gamma_seed, len->seed, z, len->seed, public_key, len->public_key,
+    return kindi_keygen(set, mu, len->seed, gamma_seed, len->seed, z, len->seed, public_keys, len->public_key,
         secret_key, len->secret_key, work, KINDI_KEYGEN_WORK_LEN(set));
 }
 
@@ -65,8 +68,36 @@ static uint32_t encrypt(uint32_t set)
 {
     const struct lengths *len = &set_lengths[set - 1];
 
-    return kindi_encrypt(set, public_key, len->public_key, coins, len->coins, message, len->padded - 1, ciphertext,
+    return kindi_encrypt(set, public_keys, len->public_key, coins, len->coins, message, len->padded - 1, ciphertexts,
         len->ciphertext, work, KINDI_ENCRYPT_WORK_LEN(set));
+}
+
+/* Recipients have coins that differ; any bytes are a public key. */
+static uint32_t make_coins(uint32_t set)
+{
+    uint8_t i;
+
+    for (i = 0; i < RECIPIENTS; i++)
+        coins[i * set_lengths[set - 1].coins] = i;
+    return 0;
+}
+
+static uint32_t encrypt_each(uint32_t set, uint32_t count)
+{
+    const struct lengths *len = &set_lengths[set - 1];
+
+    return kindi_encrypt_each(set, count, public_keys, count * len->public_key, coins, count * len->coins, message,
+        len->padded - 1, ciphertexts, count * len->ciphertext, work, KINDI_ENCRYPT_EACH_WORK_LEN(set));
+}
+
+static uint32_t encrypt_to_one(uint32_t set)
+{
+    return encrypt_each(set, 1);
+}
+
+static uint32_t encrypt_to_most(uint32_t set)
+{
+    return encrypt_each(set, RECIPIENTS);
 }
 
 static uint32_t decrypt(uint32_t set)
@@ -74,7 +105,7 @@ static uint32_t decrypt(uint32_t set)
     const struct lengths *len = &set_lengths[set - 1];
     size_t message_len;
 
-    return kindi_decrypt(set, secret_key, len->secret_key, ciphertext, len->ciphertext, coins, len->coins, message,
+    return kindi_decrypt(set, secret_key, len->secret_key, ciphertexts, len->ciphertext, coins, len->coins, message,
         len->padded - 1, &message_len, work, KINDI_DECRYPT_WORK_LEN(set));
 }
 
@@ -82,7 +113,7 @@ static uint32_t encaps(uint32_t set)
 {
     const struct lengths *len = &set_lengths[set - 1];
 
-    return kindi_encaps(set, public_key, len->public_key, coins, len->coins, key, len->coins, ciphertext,
+    return kindi_encaps(set, public_keys, len->public_key, coins, len->coins, key, len->coins, ciphertexts,
         len->ciphertext, work, KINDI_ENCAPS_WORK_LEN(set));
 }
 
@@ -90,7 +121,7 @@ static uint32_t decaps(uint32_t set)
 {
     const struct lengths *len = &set_lengths[set - 1];
 
-    return kindi_decaps(set, secret_key, len->secret_key, ciphertext, len->ciphertext, key, len->coins, work,
+    return kindi_decaps(set, secret_key, len->secret_key, ciphertexts, len->ciphertext, key, len->coins, work,
         KINDI_DECAPS_WORK_LEN(set));
 }
 
@@ -147,7 +178,7 @@ static void row(uint8_t *stack, struct call call, long idle)
 {
     /* The first call of all has the dynamic linker find memcpy, on the caller's stack. */
     run(&call);
-    printf("| `%s`", call.name);
+    printf("| %s", call.name);
     if (call.set > 0)
         printf(", set %lu", (unsigned long)call.set);
     printf(" | %ld |\n", touched(stack, &call) - idle);
@@ -156,13 +187,16 @@ static void row(uint8_t *stack, struct call call, long idle)
 int main(void)
 {
     static const struct call hashes[] = {
-        { "kindi_shake128", shake128, nothing, 0, 0 }, { "kindi_shake256", shake256, nothing, 0, 0 },
+        { "`kindi_shake128`", shake128, nothing, 0, 0 }, { "`kindi_shake256`", shake256, nothing, 0, 0 },
     };
     static const struct call calls[] = {
-        { "kindi_keygen", keygen, nothing, 0, 0 },
-        { "kindi_encrypt", encrypt, nothing, 0, 0 }, { "kindi_decrypt", decrypt, encrypt, 0, 0 },
-        { "kindi_encaps", encaps, nothing, 0, 0 }, { "kindi_decaps", decaps, encaps, 0, 0 },
-        { "kindi_noise", noise, nothing, 0, 0 }, { "kindi_choose", choose, nothing, 0, 0 },
+        { "`kindi_keygen`", keygen, nothing, 0, 0 },
+        { "`kindi_encrypt`", encrypt, nothing, 0, 0 },
+        { "`kindi_encrypt_each`, 1 recipient", encrypt_to_one, make_coins, 0, 0 },
+        { "`kindi_encrypt_each`, 12 recipients", encrypt_to_most, make_coins, 0, 0 },
+        { "`kindi_decrypt`", decrypt, encrypt, 0, 0 },
+        { "`kindi_encaps`", encaps, nothing, 0, 0 }, { "`kindi_decaps`", decaps, encaps, 0, 0 },
+        { "`kindi_noise`", noise, nothing, 0, 0 }, { "`kindi_choose`", choose, nothing, 0, 0 },
     };
     struct call call = { "no call", nothing, nothing, 0, 0 };
     void *stack;

@@ -4,10 +4,7 @@
  * of its own where there is none. Prints what happened, and exits with 1 where a call does not answer as
  * it should.
  */
-#include <stdio.h>
-#include <string.h>
-
-#include "kindi.h"
+#include "shown.h"
 
 #define SET 3
 
@@ -22,33 +19,6 @@ static uint8_t work[KINDI_NOISE_WORK_LEN(SET)];
 #if KINDI_KEYGEN_WORK_LEN(SET) > KINDI_NOISE_WORK_LEN(SET) || KINDI_DECRYPT_WORK_LEN(SET) > KINDI_NOISE_WORK_LEN(SET)
 #error "the work area is too short"
 #endif
-
-/*
- * Stands where a product draws from its random source, and gives the same bytes at each run, which
- * anybody can make. In a product every seed and all coins are fresh, uniformly random and secret, and
- * coins are used for one call only.
- */
-static void draw(const char *label, uint8_t *bytes, size_t count)
-{
-    kindi_shake256((const uint8_t *)label, strlen(label), bytes, count);
-}
-
-/* Prints what a call answered; whether it is what was expected. */
-static int answers(const char *call, uint32_t status, uint32_t expected)
-{
-    printf("%-22s status %lu%s\n", call, (unsigned long)status, status == KINDI_OK ? "" : ", refused");
-    return status == expected;
-}
-
-static void print(const char *name, const uint8_t *bytes, size_t count)
-{
-    size_t i;
-
-    printf("  %-20s %4lu bytes  ", name, (unsigned long)count);
-    for (i = 0; i < 16; i++)
-        printf("%02x", bytes[i]);
-    printf("...\n");
-}
 
 static int make_keys(void)
 {

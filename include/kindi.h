@@ -75,18 +75,23 @@ void kindi_shake256(const uint8_t *input, size_t input_len, uint8_t *output, siz
 /* The least work area of each call. */
 #define KINDI_KEYGEN_WORK_LEN(set) KINDI_BY_SET(set, 4608u, 3840u, 4352u, 8256u)
 #define KINDI_ENCRYPT_WORK_LEN(set) KINDI_BY_SET(set, 4864u, 4160u, 4608u, 8512u)
+#define KINDI_ENCRYPT_EACH_WORK_LEN(set) KINDI_BY_SET(set, 4864u, 4160u, 4608u, 8512u)
 #define KINDI_DECRYPT_WORK_LEN(set) KINDI_BY_SET(set, 4864u, 4160u, 4608u, 8512u)
 #define KINDI_ENCAPS_WORK_LEN(set) KINDI_BY_SET(set, 4864u, 4160u, 4608u, 8512u)
 #define KINDI_DECAPS_WORK_LEN(set) KINDI_BY_SET(set, 4864u, 4160u, 4608u, 8512u)
 #define KINDI_NOISE_WORK_LEN(set) KINDI_BY_SET(set, 5440u, 4672u, 5376u, 9280u)
 #define KINDI_CHOOSE_WORK_LEN(set) KINDI_BY_SET(set, 5440u, 4672u, 5376u, 9280u)
 
+/* The most recipients that kindi_encrypt_each takes. */
+#define KINDI_MAX_RECIPIENTS 12u
+
 /* The most coins that kindi_choose takes. */
 #define KINDI_CHOOSE_MAX_COINS 8u
 
 /*
  * What the calls below return: 0 for success, otherwise the number of a refusal. A call makes its checks
- * in the order of these numbers, so where several things are wrong the lowest number is returned.
+ * in the order in which they are listed here, which is not that of their numbers: 1, 13, 2, 3, 4, 14, 5, 6,
+ * 7, 8, 9. Where several things are wrong, the first of the list that applies to the call is returned.
  *
  * A refusal leaves every output slice as it was, and a value that is returned through a pointer is then 0.
  * The work area is scratch memory that the caller lends, with any content and at any address. One that
@@ -97,9 +102,11 @@ void kindi_shake256(const uint8_t *input, size_t input_len, uint8_t *output, siz
 enum kindi_status {
     KINDI_OK = 0,
     KINDI_NO_SUCH_SET = 1,      /* the set's number is not 1 to 4 */
+    KINDI_WRONG_COUNT = 13,     /* the number of recipients is 0 or over KINDI_MAX_RECIPIENTS */
     KINDI_WRONG_INPUT_LEN = 2,  /* a seed, coins, a key or a ciphertext has not the length of its set */
     KINDI_MESSAGE_TOO_LONG = 3, /* a message has more than KINDI_MESSAGE_MAX_LEN bytes */
     KINDI_WRONG_OUTPUT_LEN = 4, /* an output has not its exact length, or the work area is too short */
+    KINDI_EQUAL_COINS = 14,     /* two recipients have the same coins */
     KINDI_ERROR_TOO_LARGE = 5,  /* an error of the ciphertext is out of range: altered, of another key, not clear */
     KINDI_WRONG_PADDING = 6,    /* what was encrypted is no padded message */
     KINDI_WRONG_DIGEST = 7,     /* what was encrypted is not what kindi_encaps encrypts */
@@ -147,6 +154,29 @@ uint32_t kindi_keygen(uint32_t set, const uint8_t *mu, size_t mu_len, const uint
 uint32_t kindi_encrypt(uint32_t set, const uint8_t *public_key, size_t public_key_len,
     const uint8_t *coins, size_t coins_len, const uint8_t *message, size_t message_len,
     uint8_t *ciphertext, size_t ciphertext_len, uint8_t *work, size_t work_len);
+
+/*
+ * Encrypts one message to several recipients, each with a public key and coins of its own.
+ *
+ * Part i of the output is the ciphertext that kindi_encrypt gives for public key i, coins i and the message.
+ * It depends on no other recipient's key or coins, and recipient i decrypts it as any other ciphertext. The
+ * coins are drawn as for kindi_encrypt, for each recipient anew: coins that two recipients share are refused,
+ * wherever the two stand, since each recipient learns its coins when it decrypts. A public key may stand
+ * there twice. No part is written unless all inputs pass.
+ *
+ *   count         1 to KINDI_MAX_RECIPIENTS, the number of recipients
+ *   public_keys   count keys of KINDI_PUBLIC_KEY_LEN bytes, one after another
+ *   coins_list    count coins of KINDI_COINS_LEN bytes, one after another, in the order of the keys
+ *   message       0 to KINDI_MESSAGE_MAX_LEN bytes
+ *   ciphertexts   output, count ciphertexts of KINDI_CIPHERTEXT_LEN bytes, in the order of the keys
+ *   work          KINDI_ENCRYPT_EACH_WORK_LEN bytes or more, whatever the count
+ *
+ * Returns KINDI_OK, KINDI_NO_SUCH_SET, KINDI_WRONG_COUNT, KINDI_WRONG_INPUT_LEN, KINDI_MESSAGE_TOO_LONG,
+ * KINDI_WRONG_OUTPUT_LEN or KINDI_EQUAL_COINS.
+ */
+uint32_t kindi_encrypt_each(uint32_t set, uint32_t count, const uint8_t *public_keys, size_t public_keys_len,
+    const uint8_t *coins_list, size_t coins_list_len, const uint8_t *message, size_t message_len,
+    uint8_t *ciphertexts, size_t ciphertexts_len, uint8_t *work, size_t work_len);
 
 /*
  * Decrypts a message.

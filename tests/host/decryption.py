@@ -5,11 +5,12 @@ of their ranges, padded messages that no message gives, keys that nobody made, d
 examples of the paper's table of refusals. Refusal 9 is met at the practice sizes of the second
 implementation alone: in the four sets noise that is not clear is too rare for a test run."""
 
+import functools
 import itertools
 import random
 
-from scheme import compare, kindi, load, tally
-from support import Failure, check, main, spread
+from scheme import compare, flipped, kindi, load, statuses_of, tally
+from support import Failure, check, main
 
 SEED = 20171130
 
@@ -19,19 +20,13 @@ RANDOM_BITS = 100
 RANDOM_KEYS = 12
 
 
-def flipped(data, bit):
-    """The same bytes with one bit changed, bit 0 of each byte first."""
-    place = bit // 8
-    return data[:place] + bytes([data[place] ^ 1 << bit % 8]) + data[place + 1:]
-
-
 class Trial:
     """A set with a made key pair, and the statuses of the calls made."""
 
     def __init__(self, library, number, part):
         self.library, self.number, self.s = library, number, kindi.SETS[number]
         self.rng = random.Random(f"{SEED}, {part}, set {number}")
-        self.noise = self.rng.randbytes(2**15)
+        self.noise = self.rng.randbytes(2**16)
         self.public_key, self.secret_key = kindi.made_keys(self.s, self.rng)
         self.statuses = []
 
@@ -43,10 +38,12 @@ class Trial:
         """The status of one call, once all that it leaves is the second implementation's; outputs has
         the lengths that are not right, and work by how much the work area's is not."""
         this, s = kindi.CALLS[name], self.s
-        rooms = {key: self.content((outputs or {}).get(key, kindi.length(s, key))) for key in this.outputs}
+        given = dict(zip(this.inputs, inputs, strict=True))
+        lengths = {key: kindi.length(s, key, given.get("count")) for key in this.outputs} | (outputs or {})
+        rooms = {key: self.content(size) for key, size in lengths.items()}
         try:
-            status = compare(self.library, name, number or self.number, dict(zip(this.inputs, inputs, strict=True)),
-                             rooms, self.content(this.work(s) + work), self.rng)
+            status = compare(self.library, name, number or self.number, given, rooms,
+                             self.content(this.work(s) + work), self.rng)
         except Failure as failure:
             raise Failure(f"{what}: {failure}") from failure
         self.statuses.append(status)
@@ -204,28 +201,32 @@ def choices(trial):
 
 
 def table(trial):
-    """The examples of the paper's table, 1 to 8, as they stand there for set 1, and the like in the others."""
+    """The examples of the paper's table, 1 to 8, as they stand there for set 1, and the like in the others;
+    and the like of 13 and 14, which have none."""
     s, rng, expect = trial.s, trial.rng, trial.expect
     coins, public_key, secret_key = rng.randbytes(s.coins), trial.public_key, trial.secret_key
     seeds = [rng.randbytes(s.seed) for _ in range(3)]
     empty = trial.encrypt(coins, kindi.pad(s, b""))
-    inputs = {"keygen": seeds, "encrypt": (public_key, coins, b""), "decrypt": (secret_key, empty),
-              "encaps": (public_key, coins), "decaps": (secret_key, empty), "noise": (secret_key, coins, b""),
-              "choose": (secret_key, b"", coins)}
+    inputs = {"keygen": seeds, "encrypt": (public_key, coins, b""), "encrypt_each": (1, public_key, coins, b""),
+              "decrypt": (secret_key, empty), "encaps": (public_key, coins), "decaps": (secret_key, empty),
+              "noise": (secret_key, coins, b""), "choose": (secret_key, b"", coins)}
     check(set(inputs) == set(kindi.CALLS), "a call has no example")
     for name, given in inputs.items():
+        this = kindi.CALLS[name]
         expect(1, "set 7", name, *given, number=7)
-        expect(2, "the first input a byte short", name, given[0][1:], *given[1:])
         expect(4, "a work area a byte short", name, *given, work=-1)
-        for key in kindi.CALLS[name].outputs:
-            expect(4, f"{key} a byte short", name, *given, outputs={key: kindi.length(s, key) - 1})
-    for name in OPENINGS:
-        expect(2, "a ciphertext a byte short", name, secret_key, empty[1:])
+        for place, key in enumerate(this.inputs):
+            if key != "count":
+                status, wrong = (3, bytes(s.message + 1)) if key == "message" else (2, given[place][1:])
+                expect(status, f"{key} of {len(wrong)} bytes", name, *given[:place], wrong, *given[place + 1:])
+        for key in this.outputs:
+            expect(4, f"{key} a byte short", name, *given, outputs={key: kindi.length(s, key, 1) - 1})
     for count in (0, 9):
         expect(2, f"{count} coins to choose from", "choose", secret_key, b"", coins * count)
-    for name, given in (("encrypt", (public_key, coins)), ("noise", (secret_key, coins))):
-        expect(3, "a message a byte too long", name, *given, bytes(s.message + 1))
-    expect(3, "a message a byte too long", "choose", secret_key, bytes(s.message + 1), coins)
+    for count in (0, 13):
+        several = rng.randbytes(count * s.coins)
+        expect(13, f"{count} recipients", "encrypt_each", count, public_key * count, several, b"")
+    expect(14, "two recipients with equal coins", "encrypt_each", 2, public_key * 2, coins * 2, b"")
     values = kindi.difference_value(s, secret_key, empty)
     place = next(j for j, v in enumerate(values) if len(set(kindi.rounded_bits(s.q, [v, (v + 2 * s.p) % s.q]))) == 1)
     for name in OPENINGS:
@@ -240,17 +241,7 @@ PARTS = (altered, round_trips, ends_of_ranges, paddings, strangers, damaged_keys
 
 
 def test():
-    library = load()
-
-    def one_part(item):
-        part, number = item
-        trial = Trial(library, number, part.__name__)
-        part(trial)
-        return trial.statuses
-
-    # The longest parts of the largest sets come first, so that no processor waits for another at the end.
-    items = list(itertools.product(PARTS, sorted(kindi.SETS, reverse=True)))
-    return tally(sum(spread(one_part, items), []))
+    return tally(statuses_of(PARTS, functools.partial(Trial, load())))
 
 
 main(test)

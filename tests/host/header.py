@@ -1,10 +1,11 @@
 #!/usr/bin/env python3
-"""The header compiles alone, as C99 and as C++17, with every warning an error; and each length and
-refusal number that it has is the second implementation's, in a constant and at run time."""
+"""The header compiles alone, as C99 and as C++17, with every warning an error; each length that it has is the
+second implementation's, in a constant and at run time; and its refusals are the paper's, in the order of the
+checks."""
 
 import sys
 
-from support import BUILD, HEADER, INCLUDE, ROOT, WARNINGS, check, defined_lengths, main, run
+from support import BUILD, HEADER, INCLUDE, ROOT, WARNINGS, check, defined_lengths, defined_statuses, main, run
 
 sys.path.insert(0, str(ROOT / "tests"))
 
@@ -26,10 +27,14 @@ LENGTHS = {
     **{f"KINDI_{name.upper()}_WORK_LEN": this.work for name, this in kindi.CALLS.items()},
 }
 
-# In the order of their numbers, from 0.
-STATUSES = ("KINDI_OK", "KINDI_NO_SUCH_SET", "KINDI_WRONG_INPUT_LEN", "KINDI_MESSAGE_TOO_LONG",
-            "KINDI_WRONG_OUTPUT_LEN", "KINDI_ERROR_TOO_LARGE", "KINDI_WRONG_PADDING", "KINDI_WRONG_DIGEST",
-            "KINDI_WRONG_PUBLIC_KEY", "KINDI_NONE_CLEAR")
+# In the order of the paper's checks.
+STATUSES = {"KINDI_OK": 0, "KINDI_NO_SUCH_SET": 1, "KINDI_WRONG_COUNT": 13, "KINDI_WRONG_INPUT_LEN": 2,
+            "KINDI_MESSAGE_TOO_LONG": 3, "KINDI_WRONG_OUTPUT_LEN": 4, "KINDI_EQUAL_COINS": 14,
+            "KINDI_ERROR_TOO_LARGE": 5, "KINDI_WRONG_PADDING": 6, "KINDI_WRONG_DIGEST": 7,
+            "KINDI_WRONG_PUBLIC_KEY": 8, "KINDI_NONE_CLEAR": 9}
+
+# The most items of a list.
+LIMITS = {"KINDI_MAX_RECIPIENTS": kindi.MOST_RECIPIENTS, "KINDI_CHOOSE_MAX_COINS": kindi.MOST_COINS}
 
 
 def length(name, number):
@@ -45,9 +50,10 @@ def program():
             lines += [f"#if {name}({number}) != {length(name, number)}", f"#error {name}({number})", "#endif"]
             lines.append(f"typedef char {name.lower()}_{number}[{name}({number}) == {length(name, number)} ? 1 : -1];")
         lines += [f"extern uint8_t a_{name.lower()}_{number}[{name}({number})];" for number in kindi.SETS]
-    for number, name in enumerate(STATUSES):
+    for name, number in STATUSES.items():
         lines.append(f"typedef char {name.lower()}[{name} == {number} ? 1 : -1];")
-    lines += [f"#if KINDI_CHOOSE_MAX_COINS != {kindi.MOST_COINS}", "#error KINDI_CHOOSE_MAX_COINS", "#endif"]
+    for name, number in LIMITS.items():
+        lines += [f"#if {name} != {number}", f"#error {name}", "#endif"]
     lines += ["int main(void)", "{", "    uint32_t status = 0, set;", "    size_t size = 0;", "    int number;",
               f"    for (set = 0; set < {len(NUMBERS)}; set++) {{", "        number = (int)set;"]
     for name in LENGTHS:
@@ -63,6 +69,7 @@ def test():
     for language, compiler in LANGUAGES:
         run([*compiler, *WARNINGS, "-fsyntax-only", "-x", language, HEADER])
     check(defined_lengths() == set(LENGTHS), f"the header's lengths are {sorted(defined_lengths())}")
+    check(defined_statuses() == list(STATUSES.items()), f"the header's statuses are {defined_statuses()}")
     BUILD.mkdir(parents=True, exist_ok=True)
     source = BUILD / "lengths.c"
     source.write_text(program())

@@ -21,7 +21,7 @@ PROGRAMS = Path(__file__).resolve().parents[1] / "memcheck"
 COUNTING = "outcome"
 
 # The exported call, or the function of its name that it stands for.
-DECIDES = re.compile(r"(kindi_|(\w+::)*)(decrypt|decaps|noise|choose)")
+DECIDES = re.compile(r"(kindi_|(\w+::)*)(encrypt_each|decrypt|decaps|noise|choose)")
 
 
 def installed():

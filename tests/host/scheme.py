@@ -2,10 +2,11 @@
 second implementation's."""
 
 import ctypes
+import itertools
 import sys
 from collections import Counter
 
-from support import Guarded, ROOT, check, load_library
+from support import Guarded, ROOT, check, load_library, spread
 
 sys.path.insert(0, str(ROOT / "tests"))
 
@@ -35,9 +36,29 @@ def tally(statuses):
     return f"{counts.total()} calls of the scheme agree with the second implementation: {listed}"
 
 
+def statuses_of(parts, trial):
+    """The statuses of all calls of a test's parts, each of which takes the trial of a set and of its name. The
+    longest parts of the largest sets come first, so that no processor waits for another at the end."""
+    def one_part(item):
+        part, number = item
+        begun = trial(number, part.__name__)
+        part(begun)
+        return begun.statuses
+
+    return sum(spread(one_part, itertools.product(parts, sorted(kindi.SETS, reverse=True))), [])
+
+
 def describe(name, number, inputs, outputs, work):
-    lengths = ", ".join(f"{key} {len(data)}" for key, data in {**inputs, **outputs, "work": work}.items())
-    return f"kindi_{name}, set {number}, lengths {lengths}"
+    slices = {**kindi.slices(inputs), **outputs, "work": work}
+    lengths = ", ".join(f"{key} {len(data)}" for key, data in slices.items())
+    count = f", count {inputs['count']}" if "count" in inputs else ""
+    return f"kindi_{name}, set {number}{count}, lengths {lengths}"
+
+
+def flipped(data, bit):
+    """The same bytes with one bit changed, bit 0 of each byte first."""
+    place = bit // 8
+    return data[:place] + bytes([data[place] ^ 1 << bit % 8]) + data[place + 1:]
 
 
 def differences(found, expected):
@@ -50,7 +71,8 @@ def invoke(library, name, number, inputs, outputs, work, rng=None):
     """Makes one call on guarded buffers with the given contents, and gives its answer. Inputs have to
     stay as they were. With a random source the buffers are at random addresses, and of a slice of length
     0 the pointer is sometimes NULL."""
-    slices = {**{("in", key): data for key, data in inputs.items()},
+    given = kindi.slices(inputs)
+    slices = {**{("in", key): data for key, data in given.items()},
               **{("out", key): data for key, data in outputs.items()}, ("work", ""): work}
     rooms, words = {}, {}
     for key, data in slices.items():
@@ -59,10 +81,11 @@ def invoke(library, name, number, inputs, outputs, work, rng=None):
         words[key] = [None if null else rooms[key].pointer(), ctypes.c_size_t(len(data))]
     values = {key: VALUES[key](UNTOUCHED) for key in kindi.CALLS[name].values}
     *before, last = words.values()
+    numbers = [number, *(inputs[key] for key in inputs if key not in given)]
     status = getattr(library, f"kindi_{name}")(
-        ctypes.c_uint32(number), *sum(before, []), *map(ctypes.byref, values.values()), *last)
+        *map(ctypes.c_uint32, numbers), *sum(before, []), *map(ctypes.byref, values.values()), *last)
     what = describe(name, number, inputs, outputs, work)
-    for key, data in inputs.items():
+    for key, data in given.items():
         check(rooms["in", key].bytes() == data, f"{what}: the input {key} was changed")
     return kindi.Answer(status, {key: value.value for key, value in values.items()},
                         {key: rooms["out", key].bytes() for key in outputs}, rooms["work", ""].bytes())

@@ -15,10 +15,12 @@
 #include "kindi.h"
 
 #define SETS 4
-#define MOST 16384
+/* No slice is longer than the ciphertexts of the most recipients. */
+#define MOST 40960
 
 /* Each slice's room: whole pages, MOST bytes or more, between two pages that nobody may touch. */
-enum { MU, GAMMA, Z, PUBLIC_KEY, SECRET_KEY, COINS, MESSAGE, KEY, CIPHERTEXT, WORK, SLICES };
+enum { MU, GAMMA, Z, PUBLIC_KEY, SECRET_KEY, COINS, MESSAGE, KEY, CIPHERTEXT, PUBLIC_KEYS, COINS_LIST, CIPHERTEXTS,
+    WORK, SLICES };
 static uint8_t *rooms[SLICES];
 static size_t room_len;
 
@@ -169,6 +171,44 @@ static void encrypt(uint32_t set, int at_end)
     }
 }
 
+/* The last recipient has the key that was made, and decrypts its part; the others' keys are any bytes. A message
+ * of length 0 is NULL at the second turn. */
+static void encrypt_several(uint32_t set, int at_end, uint32_t count, size_t message_len)
+{
+    static uint8_t first[MOST];
+    size_t public_len = KINDI_PUBLIC_KEY_LEN(set), coins_len = KINDI_COINS_LEN(set);
+    size_t ciphertext_len = KINDI_CIPHERTEXT_LEN(set), work_len = KINDI_ENCRYPT_EACH_WORK_LEN(set);
+    size_t keys_len = count * public_len, list_len = count * coins_len, output_len = count * ciphertext_len;
+    uint8_t *keys = filled(PUBLIC_KEYS, keys_len, at_end, 0), *list = filled(COINS_LIST, list_len, at_end, 0);
+    uint8_t *message = filled(MESSAGE, message_len, at_end, 0);
+    unsigned turn;
+
+    memcpy(keys + keys_len - public_len, slice(PUBLIC_KEY, public_len, at_end), public_len);
+    memcpy(list + list_len - coins_len, filled(COINS, coins_len, at_end, 0), coins_len);
+    for (turn = 0; turn < 2; turn++) {
+        uint8_t *ciphertexts = filled(CIPHERTEXTS, output_len, at_end, turn + 1);
+        uint8_t *work = filled(WORK, work_len, at_end, turn + 1);
+
+        succeeded(kindi_encrypt_each(set, count, keys, keys_len, list, list_len,
+            turn == 1 && message_len == 0 ? NULL : message, message_len, ciphertexts, output_len, work, work_len),
+            work, work_len);
+        same(turn, first, ciphertexts, output_len);
+    }
+    memcpy(slice(CIPHERTEXT, ciphertext_len, at_end), first + output_len - ciphertext_len, ciphertext_len);
+    decrypt_message(set, at_end, message_len);
+}
+
+static void encrypt_each(uint32_t set, int at_end)
+{
+    static const uint32_t counts[] = { 1, 2, KINDI_MAX_RECIPIENTS };
+    size_t i;
+
+    for (i = 0; i < sizeof counts / sizeof counts[0]; i++) {
+        encrypt_several(set, at_end, counts[i], 0);
+        encrypt_several(set, at_end, counts[i], KINDI_MESSAGE_MAX_LEN(set));
+    }
+}
+
 static void encaps(uint32_t set, int at_end)
 {
     static uint8_t first[2][MOST];
@@ -260,6 +300,8 @@ static void nulls(uint32_t set, int at_end)
     (void)at_end;
     if (kindi_keygen(set, NULL, 0, NULL, 0, NULL, 0, NULL, 0, NULL, 0, NULL, 0) != wrong
         || kindi_encrypt(set, NULL, 0, NULL, 0, NULL, 0, NULL, 0, NULL, 0) != wrong
+        || kindi_encrypt_each(set, 1, NULL, 0, NULL, 0, NULL, 0, NULL, 0, NULL, 0) != wrong
+        || kindi_encrypt_each(set, 0, NULL, 0, NULL, 0, NULL, 0, NULL, 0, NULL, 0) != KINDI_WRONG_COUNT
         || kindi_decrypt(set, NULL, 0, NULL, 0, NULL, 0, NULL, 0, &message_len, NULL, 0) != wrong
         || kindi_encaps(set, NULL, 0, NULL, 0, NULL, 0, NULL, 0, NULL, 0) != wrong
         || kindi_decaps(set, NULL, 0, NULL, 0, NULL, 0, NULL, 0) != wrong
@@ -274,8 +316,8 @@ int main(void)
     static const struct part {
         const char *name;
         void (*run)(uint32_t set, int at_end);
-    } parts[] = { { "keygen", keygen }, { "encrypt and decrypt", encrypt }, { "encaps", encaps }, { "decaps", decaps },
-        { "noise", noise }, { "choose", choose }, { "all NULL", nulls } };
+    } parts[] = { { "keygen", keygen }, { "encrypt and decrypt", encrypt }, { "encrypt_each", encrypt_each },
+        { "encaps", encaps }, { "decaps", decaps }, { "noise", noise }, { "choose", choose }, { "all NULL", nulls } };
     uint32_t set;
     int at_end;
     size_t p;

@@ -1,13 +1,13 @@
 #!/usr/bin/env python3
-"""The scheme's calls beside the second implementation, on random seeds, coins, messages, keys and
-ciphertexts of every set, at lengths that mostly fit, at addresses of every remainder by 8.
+"""The scheme's calls beside the second implementation, on random seeds, coins, messages, keys, ciphertexts
+and numbers of recipients, in every set, at lengths that mostly fit, at addresses of every remainder by 8.
 
 usage: scheme_random.py [SEED [CALLS]]
 """
 
 import random
 
-from scheme import NAMES, compare, kindi, load, tally
+from scheme import NAMES, compare, flipped, kindi, load, tally
 from support import main, repeat
 
 SEED = 20170918
@@ -73,18 +73,44 @@ def ciphertext(rng, s, inputs):
     coins = content(rng, s.coins)
     message = kindi.digest(s, coins) if part < 0.5 else content(rng, min(message_length(rng, s), s.message))
     made = kindi.encrypt_padded(s, inputs["secret_key"][:s.public_key], coins, kindi.pad(s, message))
-    if part < 0.9:
-        return made
-    place = rng.randrange(len(made))
-    return made[:place] + bytes([made[place] ^ 1 << rng.randrange(8)]) + made[place + 1:]
+    return made if part < 0.9 else flipped(made, rng.randrange(8 * len(made)))
+
+
+def count(rng, *_):
+    """A number of recipients, mostly a small one; now and then one that is not taken."""
+    most = kindi.MOST_RECIPIENTS
+    if rng.random() < 0.05:
+        return rng.choice((0, most + 1, 256, rng.randrange(2**32)))
+    return rng.choice((1, 2, 2, 3, 3, rng.randint(1, most)))
+
+
+def items(inputs):
+    """How many items the lists of a call have: the count, or one too many where it is far too large."""
+    return min(inputs.get("count", 0), kindi.MOST_RECIPIENTS + 1)
+
+
+def public_keys(rng, s, inputs):
+    return b"".join(public_key(rng, s, inputs) for _ in range(items(inputs)))
+
+
+def coins_list(rng, s, inputs):
+    """Coins of which at times two are equal, and at times two are one bit apart."""
+    size = items(inputs) if "count" in inputs else rng.choice((1, 1, 2, 3, kindi.MOST_COINS))
+    several = [content(rng, s.coins) for _ in range(size)]
+    if len(several) > 1 and rng.random() < 0.4:
+        one, other = rng.sample(range(len(several)), 2)
+        several[one] = rng.choice((several[other], flipped(several[other], rng.randrange(8 * s.coins))))
+    return b"".join(several)
 
 
 CONTENTS = {
+    "count": count,
     "message": lambda rng, s, _: content(rng, message_length(rng, s)),
     "public_key": public_key,
+    "public_keys": public_keys,
     "secret_key": secret_key,
     "ciphertext": ciphertext,
-    "coins_list": lambda rng, s, _: content(rng, rng.choice((1, 1, 2, 3, kindi.MOST_COINS)) * s.coins),
+    "coins_list": coins_list,
 }
 
 
@@ -108,11 +134,11 @@ def one_call(rng, library):
     name, number = rng.choice(NAMES), rng.choice(list(kindi.SETS))
     this, s = kindi.CALLS[name], kindi.SETS[number]
     inputs = input_contents(rng, s, this)
-    outputs = {key: content(rng, kindi.length(s, key)) for key in this.outputs}
-    for slices in (inputs, outputs):
-        if slices and rng.random() < 0.04:
-            key = rng.choice(list(slices))
-            slices[key] = resized(rng, slices[key])
+    outputs = {key: content(rng, kindi.length(s, key, items(inputs))) for key in this.outputs}
+    for given in (inputs, outputs):
+        if given and rng.random() < 0.04:
+            key = rng.choice(list(kindi.slices(given)))
+            given[key] = resized(rng, given[key])
     if rng.random() < 0.02:
         number = rng.choice((0, 5, rng.randrange(2**32)))
     return compare(library, name, number, inputs, outputs, content(rng, work_length(rng, this.work(s))), rng)

@@ -88,6 +88,12 @@ def defined_lengths():
     return set(re.findall(r"^#define (KINDI_\w*_LEN)\(", listing, re.MULTILINE))
 
 
+def defined_statuses():
+    """The names and numbers of the header's statuses, in its order."""
+    text = run(["gcc", "-std=c99", "-E", "-P", "-x", "c", HEADER])
+    return [(name, int(number)) for name, number in re.findall(r"\b(KINDI_\w+) = (\d+)", text)]
+
+
 class Guarded:
     """A buffer with a run of known bytes before and after it, to see a write outside it.
 

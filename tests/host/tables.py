@@ -1,14 +1,15 @@
 #!/usr/bin/env python3
 """The tables of docs/WORK-AREAS.md and README.md have the header's numbers, as the compiler reads it: each length
-in each set, and each refusal. docs/WORK-AREAS.md leaves no length and no call of the header out, README.md no length
-but those of work areas; and no work area is over 01's limit."""
+in each set, and each refusal, in the header's order, which is also the order of the checks that README.md and the
+header's comment tell. docs/WORK-AREAS.md leaves no length and no call of the header out, README.md no length but
+those of work areas; and no work area is over 01's limit."""
 
 import re
 
-from support import BUILD, HEADER, INCLUDE, ROOT, WARNINGS, check, declared_functions, defined_lengths, main, run
+from support import (BUILD, HEADER, INCLUDE, ROOT, WARNINGS, check, declared_functions, defined_lengths,
+                     defined_statuses, main, run)
 
 SETS = (1, 2, 3, 4)
-MOST_COINS = "KINDI_CHOOSE_MAX_COINS"
 MOST_WORK = 65536
 
 WORK_AREAS = "docs/WORK-AREAS.md"
@@ -24,7 +25,15 @@ def work_of(call):
     return f"KINDI_{call.upper()}_WORK_LEN"
 
 
-# The macros that a row of lengths answers to, each of them.
+# The rows of lists: the macros of an item's length, and of the most items.
+LISTS = {
+    "list of coins of `kindi_choose`": ("KINDI_COINS_LEN", "KINDI_CHOOSE_MAX_COINS"),
+    "public keys of `kindi_encrypt_each`": ("KINDI_PUBLIC_KEY_LEN", "KINDI_MAX_RECIPIENTS"),
+    "list of coins of `kindi_encrypt_each`": ("KINDI_COINS_LEN", "KINDI_MAX_RECIPIENTS"),
+    "ciphertexts of `kindi_encrypt_each`": ("KINDI_CIPHERTEXT_LEN", "KINDI_MAX_RECIPIENTS"),
+}
+
+# The macros that a row of lengths answers to, each of them; a list answers to its row above.
 ROWS = {
     "seed, coins, shared key": ["KINDI_SEED_LEN", "KINDI_COINS_LEN", "KINDI_KEY_LEN"],
     "public key": ["KINDI_PUBLIC_KEY_LEN"],
@@ -32,30 +41,25 @@ ROWS = {
     "ciphertext": ["KINDI_CIPHERTEXT_LEN"],
     "longest message": ["KINDI_MESSAGE_MAX_LEN"],
     "longest message, message output of `kindi_decrypt`": ["KINDI_MESSAGE_MAX_LEN"],
-    "list of coins of `kindi_choose`": [MOST_COINS],
-    "work area of encrypt, decrypt, encaps, decaps": list(map(work_of, ("encrypt", "decrypt", "encaps", "decaps"))),
+    "work area of encrypt, encrypt_each, decrypt, encaps, decaps":
+        list(map(work_of, ("encrypt", "encrypt_each", "decrypt", "encaps", "decaps"))),
+    **{name: [name] for name in LISTS},
 }
 
+# What stands before the order of the checks, in the texts that tell it.
+ORDERS = {ROOT / README: "in this order: ", HEADER: "which is not that of their numbers: "}
 
-def values(names):
-    """The header's macros, each in the four sets, and the most coins to choose from."""
+
+def values(asked):
+    """The header's numbers, each under the words that it is asked by."""
     BUILD.mkdir(parents=True, exist_ok=True)
     source, out = BUILD / "tables.c", BUILD / "tables"
-    asked = [f"{name}({number})" for name in names for number in SETS] + [MOST_COINS]
     lines = ['#include "kindi.h"', "#include <stdio.h>", "int main(void)", "{"]
     lines += [f'    printf("%u\\n", {word});' for word in asked]
     lines += ["    return 0;", "}", ""]
     source.write_text("\n".join(lines))
     run(["gcc", "-std=c99", *WARNINGS, "-I", INCLUDE, source, "-o", out])
-    *found, most = map(int, run([out]).split())
-    return {name: [found.pop(0) for _ in SETS] for name in names}, most
-
-
-def refusals():
-    """The numbers of the header's refusals, in its order."""
-    text = run(["gcc", "-std=c99", "-E", "-P", "-x", "c", HEADER])
-    statuses = re.findall(r"\b(KINDI_\w+) = (\d+)", text)
-    return [number for name, number in statuses if name != "KINDI_OK"]
+    return dict(zip(asked, map(int, run([out]).split()), strict=True))
 
 
 def table(document, first):
@@ -103,20 +107,34 @@ def check_lengths(document, cells):
     return covered
 
 
+def check_refusals():
+    """Holds the README's table and the order of the checks to the header; how many refusals there are."""
+    numbers = [str(number) for name, number in defined_statuses() if name != "KINDI_OK"]
+    # The refusals of linkcheck alone are none of the header.
+    listed = [row[0] for row in table(README, OF_REFUSALS) if not row[1].startswith("`linkcheck`")]
+    order = ", ".join(numbers)
+    check(listed == numbers, f"{README} has the refusals {', '.join(listed)}; the header {order}")
+    for path, before in ORDERS.items():
+        text = re.sub(r"\s+(\* )?", " ", path.read_text())
+        told = re.findall(rf"{before}(\d+(?:, \d+)*)", text)
+        check(told == [order], f"{path.name} has to say '{before}{order}' once: {told}")
+    return len(listed)
+
+
 def test():
-    lengths, most_coins = values(sorted(defined_lengths()))
+    names = sorted(defined_lengths())
+    found = values([f"{name}({number})" for name in names for number in SETS] + [most for _, most in LISTS.values()])
+    lengths = {name: [found[f"{name}({number})"] for number in SETS] for name in names}
     cells = {name: [str(length) for length in row] for name, row in lengths.items()}
-    cells[MOST_COINS] = [f"{one} to {most_coins * one} by {one}" for one in lengths["KINDI_COINS_LEN"]]
+    for row, (item, most) in LISTS.items():
+        cells[row] = [f"{one} to {found[most] * one} by {one}" for one in lengths[item]]
     missing = cells.keys() - check_work(cells) - check_lengths(WORK_AREAS, cells)
     check(not missing, f"{WORK_AREAS} has no row of {', '.join(sorted(missing))}")
     missing = {name for name in lengths if not name.endswith("_WORK_LEN")} - check_lengths(README, cells)
     check(not missing, f"{README} has no row of {', '.join(sorted(missing))}")
     for name, row in lengths.items():
         check(not name.endswith("_WORK_LEN") or max(row) <= MOST_WORK, f"{name} is over {MOST_WORK}")
-    # The refusals of linkcheck alone are none of the header.
-    listed = [row[0] for row in table(README, OF_REFUSALS) if not row[1].startswith("`linkcheck`")]
-    check(listed == refusals(), f"{README} has the refusals {', '.join(listed)}; the header {', '.join(refusals())}")
-    return f"the tables have the header's {len(lengths)} lengths in each set and its {len(listed)} refusals"
+    return f"the tables have the header's {len(lengths)} lengths in each set and its {check_refusals()} refusals"
 
 
 main(test)

@@ -1,15 +1,16 @@
 /*
- * Calls decrypt, decaps, noise and choose on secrets that memcheck takes for undefined: it then reports
- * every branch and every address that depends on them. Secret are gamma and z in the secret key, and the
- * coins and the message in noise and choose; the stored public key and the ciphertext are public.
+ * Calls encrypt_each, decrypt, decaps, noise and choose on secrets that memcheck takes for undefined: it then
+ * reports every branch and every address that depends on them. Secret are gamma and z in the secret key, and
+ * the coins and the message in encrypt_each, noise and choose; public keys and ciphertexts are public.
  *
  * The outcome of these calls depends on the secrets, and a call branches on it once it is decided. So the
  * reports of each call are counted as they happen, and no call has more of them than outcomes to decide:
- * decrypt and decaps their status; noise whether the stored public key is that of its seeds, and nothing
- * where its seeds are known; choose that, and whether some coins are clear. All that comes before such a
- * branch has been run without a report. What decrypt does after it has accepted, copying a message whose
- * length is then no secret from the caller, is run with reports turned off; its refusals 5 and 6 end at
- * the branch and so show all that comes before.
+ * encrypt_each whether any two coins are equal, and nothing where the coins are known; decrypt and decaps
+ * their status; noise whether the stored public key is that of its seeds, and nothing where its seeds are
+ * known; choose that, and whether some coins are clear. All that comes before such a branch has been run
+ * without a report, and in encrypt_each all that comes after it. What decrypt does after it has accepted,
+ * copying a message whose length is then no secret from the caller, is run with reports turned off; its
+ * refusals 5 and 6 end at the branch and so show all that comes before.
  *
  * With an argument the program itself branches on a shared key, which has to be counted: exit 9, as for
  * every report that is one too many.
@@ -49,6 +50,45 @@ static void finish(const char *call, uint32_t set, unsigned outcomes, uint32_t s
         fail(call, set, "another status than expected");
     wiped(call, set, work, work_len);
     free(work);
+}
+
+/* Encrypts to the most recipients, whose coins at two places are equal where the places differ. The message is
+ * secret, and the coins where there is an outcome that depends on them. */
+static void encrypt_each(uint32_t set, unsigned outcomes, size_t one, size_t other)
+{
+    size_t keys_len = KINDI_MAX_RECIPIENTS * public_key_len, list_len = KINDI_MAX_RECIPIENTS * coins_len;
+    size_t output_len = KINDI_MAX_RECIPIENTS * ciphertext_len, work_len = KINDI_ENCRYPT_EACH_WORK_LEN(set), i;
+    uint32_t expected = one == other ? KINDI_OK : KINDI_EQUAL_COINS, status;
+    uint8_t *keys = buffer(keys_len, 0), *list = buffer(list_len, 0), *output = buffer(output_len, 0);
+    uint8_t *before = buffer(output_len, 0), *work = start(work_len);
+
+    for (i = 0; i < coins_len; i++)
+        list[other * coins_len + i] = list[one * coins_len + i];
+    if (outcomes > 0)
+        (void)VALGRIND_MAKE_MEM_UNDEFINED(list, list_len);
+    status = kindi_encrypt_each(set, KINDI_MAX_RECIPIENTS, keys, keys_len, list, list_len, message, message_len,
+        output, output_len, work, work_len);
+    finish("encrypt_each", set, outcomes, status, expected, work, work_len);
+    for (i = 0; i < KINDI_MAX_RECIPIENTS && expected == KINDI_OK; i++)
+        depends("encrypt_each", set, output + i * ciphertext_len, outcomes > 0 ? ciphertext_len : 1);
+    for (i = 0; i < output_len && expected != KINDI_OK; i++)
+        if (marked(output + i) != 0 || output[i] != before[i])
+            fail("encrypt_each", set, "a refusal wrote the output");
+    free(keys), free(list), free(output), free(before);
+}
+
+/* Coins that all differ, and equal ones at the first two places, the last two, the first and the last, and two
+ * in between. */
+static void recipients(uint32_t set)
+{
+    size_t last = KINDI_MAX_RECIPIENTS - 1;
+
+    encrypt_each(set, 0, 0, 0);
+    encrypt_each(set, 1, 0, 0);
+    encrypt_each(set, 1, 0, 1);
+    encrypt_each(set, 1, last - 1, last);
+    encrypt_each(set, 1, 0, last);
+    encrypt_each(set, 1, 3, 7);
 }
 
 /* Adds to the first coefficient of a ciphertext, which has 14 bits in the sets 1 and 3, else 13. */
@@ -185,6 +225,7 @@ int main(int argc, char **argv)
         make(set);
         (void)VALGRIND_MAKE_MEM_UNDEFINED(coins, coins_len);
         (void)VALGRIND_MAKE_MEM_UNDEFINED(message, message_len);
+        recipients(set);
         noise(set, 0, KINDI_OK);
         (void)VALGRIND_MAKE_MEM_UNDEFINED(secret_key + public_key_len, 2 * seed_len);
         decrypt(set, KINDI_OK);

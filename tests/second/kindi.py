@@ -1,16 +1,18 @@
 #!/usr/bin/env python3
-"""The scheme of the second implementation: keys, encryption, decryption, shared keys, the noise and the
-choice among coins, written from the paper 01 alone in plain integers and lists. SHAKE is hashlib's.
+"""The scheme of the second implementation: keys, encryption to one recipient and to several, decryption,
+shared keys, the noise and the choice among coins, written from the paper 01 and request No. 1 of 02 alone
+in plain integers and lists. SHAKE is hashlib's.
 
 A polynomial is a list of n integers, coefficient 0 first, which is taken modulo q only where the paper
 asks for it. `answer` and `call` give the whole answer of a C call: its status, the values that it
 returns, and each output and the work area as they are at exit.
 
-usage: kindi.py    check the lengths and examples of the paper, round trips, and the refusals 1 to 9
+usage: kindi.py    check the lengths and examples of the paper, round trips, and the refusals of the calls
 """
 
 import functools
 import hashlib
+import itertools
 import random
 import sys
 from collections.abc import Callable
@@ -116,6 +118,11 @@ def cut(data, *sizes):
         data = data[size:]
     assert not data
     return parts
+
+
+def items(data, size):
+    """The items of a list, which lie one after another and have this size each."""
+    return cut(data, *[size] * (len(data) // size))
 
 
 def polynomials(s, w, data):
@@ -322,6 +329,13 @@ def encrypt(s, public_key, coins, message):
     return {"ciphertext": encrypt_padded(s, public_key, coins, pad(s, message))}, {}
 
 
+def encrypt_each(s, count, public_keys, coins_list, message):
+    keys, several = items(public_keys, s.public_key), items(coins_list, s.coins)
+    refuse(14, len(set(several)) < count)
+    made = [encrypt_padded(s, key, coins, pad(s, message)) for key, coins in zip(keys, several, strict=True)]
+    return {"ciphertexts": b"".join(made)}, {}
+
+
 def decrypt(s, secret_key, ciphertext):
     coins, padded = decrypt_padded(s, secret_key, ciphertext)
     message = unpad(padded)
@@ -354,16 +368,16 @@ def noise(s, secret_key, coins, message):
 
 def choose(s, secret_key, message, coins_list):
     mu, gamma = made_seeds(s, secret_key)
-    coins = cut(coins_list, *[s.coins] * (len(coins_list) // s.coins))
-    places = [i for i, one in enumerate(coins) if is_clear(s, noise_of(s, mu, gamma, one, message))]
+    places = [i for i, coins in enumerate(items(coins_list, s.coins))
+              if is_clear(s, noise_of(s, mu, gamma, coins, message))]
     refuse(9, not places)
     return {}, {"place": places}
 
 
 @dataclass(frozen=True)
 class Call:
-    """A C call: the length of its work area, its slices in the order of its arguments, and what it
-    returns besides the status."""
+    """A C call: the length of its work area, its inputs and outputs in the order of its arguments, and
+    what it returns besides the status. An input is bytes, and a number where it is the count."""
     make: Callable
     work: Callable
     inputs: tuple
@@ -386,6 +400,8 @@ def noise_work(s):
 CALLS = {
     "keygen": Call(keygen, keygen_work, ("mu", "gamma", "z"), ("public_key", "secret_key")),
     "encrypt": Call(encrypt, encrypt_work, ("public_key", "coins", "message"), ("ciphertext",)),
+    "encrypt_each": Call(encrypt_each, encrypt_work, ("count", "public_keys", "coins_list", "message"),
+                         ("ciphertexts",)),
     "decrypt": Call(decrypt, encrypt_work, ("secret_key", "ciphertext"), ("coins", "message"), ("message_len",)),
     "encaps": Call(encaps, encrypt_work, ("public_key", "coins"), ("key", "ciphertext")),
     "decaps": Call(decaps, encrypt_work, ("secret_key", "ciphertext"), ("key",)),
@@ -394,21 +410,32 @@ CALLS = {
 }
 
 MOST_COINS = 8
+MOST_RECIPIENTS = 12
+
+# What the items of each list are.
+LISTS = {"public_keys": "public_key", "coins_list": "coins", "ciphertexts": "ciphertext"}
 
 
-def length(s, name):
-    """The exact length of a slice; of a message that goes in, the greatest."""
+def length(s, name, count=None):
+    """The exact length of a slice, of a list that of count items; of a message that goes in, the greatest."""
+    if name in LISTS:
+        return count * length(s, LISTS[name])
     fields = {"mu": s.seed, "gamma": s.seed, "z": s.seed, "key": s.coins}
     return fields[name] if name in fields else getattr(s, name)
 
 
-def input_fits(s, name, data):
-    """Whether an input passes the check of refusal 2."""
+def slices(inputs):
+    """The inputs that are bytes."""
+    return {key: data for key, data in inputs.items() if key != "count"}
+
+
+def input_fits(s, name, data, count):
+    """Whether an input passes the check of refusal 2; a call that takes no count has lists of 1 to
+    MOST_COINS items."""
     if name == "message":
         return True
-    if name == "coins_list":
-        return len(data) in [count * s.coins for count in range(1, MOST_COINS + 1)]
-    return len(data) == length(s, name)
+    counts = range(1, MOST_COINS + 1) if count is None else [count]
+    return len(data) in [length(s, name, some) for some in counts]
 
 
 @dataclass(frozen=True)
@@ -422,7 +449,7 @@ class Answer:
 
 def answer(name, s, inputs, outputs, work):
     """The whole answer of a call with the parameters s, or None for a set that there is none of; the
-    slices are given by name, as they are at entry."""
+    inputs and outputs are given by name, as they are at entry."""
     this = CALLS[name]
     assert tuple(inputs) == this.inputs and tuple(outputs) == this.outputs
     zeros = {value: [0] for value in this.values}
@@ -430,10 +457,12 @@ def answer(name, s, inputs, outputs, work):
         return Answer(1, zeros, outputs, work)
     enough = len(work) >= this.work(s)
     wiped = bytes(len(work)) if enough else work
+    count = inputs.get("count")
     try:
-        refuse(2, not all(input_fits(s, key, data) for key, data in inputs.items()))
+        refuse(13, count is not None and not 1 <= count <= MOST_RECIPIENTS)
+        refuse(2, not all(input_fits(s, key, data, count) for key, data in slices(inputs).items()))
         refuse(3, len(inputs.get("message", b"")) > s.message)
-        refuse(4, not enough or any(len(data) != length(s, key) for key, data in outputs.items()))
+        refuse(4, not enough or any(len(data) != length(s, key, count) for key, data in outputs.items()))
         made, values = this.make(s, **inputs)
     except Refused as refusal:
         return Answer(refusal.number, zeros, outputs, wiped)
@@ -458,7 +487,7 @@ TABLE = {
 # The lengths of work areas that docs/WORK-AREAS.md lists, set by set; the paper's bound on them.
 WORK_TABLE = {
     ("keygen",): (4608, 3840, 4352, 8256),
-    ("encrypt", "decrypt", "encaps", "decaps"): (4864, 4160, 4608, 8512),
+    ("encrypt", "encrypt_each", "decrypt", "encaps", "decaps"): (4864, 4160, 4608, 8512),
     ("noise", "choose"): (5440, 4672, 5376, 9280),
 }
 MOST_WORK = 65536
@@ -474,9 +503,10 @@ PRACTICE = [
 def ask(name, s, inputs, work=None):
     """The answer of a call with outputs of the right lengths, and a work area that is long enough."""
     this = CALLS[name]
-    outputs = {key: b"\xa5" * length(s, key) for key in this.outputs}
+    inputs = dict(zip(this.inputs, inputs, strict=True))
+    outputs = {key: b"\xa5" * length(s, key, inputs.get("count")) for key in this.outputs}
     work = b"\x5a" * (this.work(s) + 3) if work is None else work
-    got = answer(name, s, dict(zip(this.inputs, inputs, strict=True)), outputs, work)
+    got = answer(name, s, inputs, outputs, work)
     assert got.work == bytes(len(work)), name
     if got.status:
         assert got.outputs == outputs and set(map(tuple, got.values.values())) <= {(0,)}, name
@@ -591,7 +621,7 @@ def check_late_refusals(number, s, rng):
 
 
 def check_early_refusals():
-    """The paper's examples of the refusals 1 to 4, and that the lowest number answers."""
+    """The paper's examples of the refusals 1 to 4, several of them at a time."""
     s, seed, work = SETS[1], bytes(32), b"\x5a" * 5000
     outputs = {"public_key": bytes(s.public_key), "secret_key": bytes(s.secret_key)}
 
@@ -618,6 +648,55 @@ def check_early_refusals():
     for name in ("decrypt", "decaps"):
         assert ask(name, s, (secret_key, bytes(1791))).status == 2
         assert ask(name, s, (secret_key[1:], bytes(1792))).status == 2
+
+
+def check_order():
+    """A call in which all is wrong is mended one thing after another, and meets the refusals in their order."""
+    s, number = SETS[1], 7
+    given = {"count": 0, "public_keys": bytes(1), "coins_list": bytes(1), "message": bytes(384)}
+    outputs, work = {"ciphertexts": bytes(1)}, b"\x5a" * 4863
+
+    def status():
+        got = call("encrypt_each", number, given, outputs, work)
+        assert got.status == 0 or got.outputs == outputs
+        assert got.work == (work if got.status == 1 or len(work) < 4864 else bytes(len(work)))
+        return got.status
+
+    assert status() == 1
+    number = 1
+    for count, expected in ((0, 13), (13, 13), (256, 13), (2**32 - 1, 13), (12, 2)):
+        given["count"] = count
+        assert status() == expected
+    given["public_keys"] = bytes(12 * s.public_key)
+    assert status() == 2
+    given["coins_list"] = bytes(12 * 32)
+    assert status() == 3
+    given["message"] = bytes(383)
+    assert status() == 4
+    outputs["ciphertexts"] = bytes(12 * 1792)
+    assert status() == 4
+    work += b"\x5a"
+    assert status() == 14
+    given["coins_list"] = b"".join(bytes([i]) * 32 for i in range(12))
+    assert status() == 0
+
+
+def check_recipients(s, rng, count):
+    """One message for several recipients, two of which have the same key: each part is the ciphertext of
+    its key and coins alone, and opens to them where they are clear. Equal coins are refused at any two
+    places. Whether all were clear."""
+    pairs = [made_keys(s, rng) for _ in range(count - 1)]
+    pairs.insert(rng.randrange(count), pairs[0])
+    keys = b"".join(public_key for public_key, _ in pairs)
+    coins = [bytes([i]) + rng.randbytes(s.coins - 1) for i in range(count)]
+    message = rng.randbytes(rng.randint(0, s.message))
+    got = ask("encrypt_each", s, (count, keys, b"".join(coins), message))
+    clear, parts = zip(*(check_pair(s, pair, one, message) for pair, one in zip(pairs, coins, strict=True)))
+    assert (got.status, got.outputs) == (0, {"ciphertexts": b"".join(parts)})
+    for i, j in itertools.combinations(range(count), 2):
+        equal = [coins[i] if place == j else one for place, one in enumerate(coins)]
+        assert ask("encrypt_each", s, (count, keys, b"".join(equal), message)).status == 14
+    return all(clear)
 
 
 def check_practice(s, rng):
@@ -655,13 +734,17 @@ def check_itself():
     check_lengths()
     check_examples()
     check_early_refusals()
+    check_order()
     for number, s in SETS.items():
         check_late_refusals(number, s, rng)
+        assert check_recipients(s, rng, 3), number
         keys = made_keys(s, rng)
         for size in (1, s.message // 2, s.message):
             clear, ciphertext = check_pair(s, keys, rng.randbytes(s.coins), rng.randbytes(size))
             assert clear, number
             check_strict(s, keys[1], ciphertext)
+    for s in PRACTICE:
+        check_recipients(s, rng, MOST_RECIPIENTS)
     met = set().union(*(check_practice(s, rng) for s in PRACTICE))
     assert met == {("clear", True), ("clear", False), "refusal 9"}, met
 

@@ -6,10 +6,14 @@ usage: kindi_cases.py          write tests/vectors/known_answers/set1.txt to set
 
 A file is text. A part begins with a call's name in brackets and has a line 'name = value' for each
 input, output and returned value of that call, in the order of its arguments. An input or output is bytes
-in hexadecimal, and nothing where there are none; a returned value is a decimal number, or all right ones
-where several are right. A key or a ciphertext that has no line is the one that the last part above gave
-out. A refusal has a line 'status = number' in place of what it leaves alone. Lines that begin with # are
-comments.
+in hexadecimal, and nothing where there are none; a count is a decimal number, and a returned value is one,
+or all right ones where several are right. A key or a ciphertext that has no line is the one that the last
+part above gave out. A refusal has a line 'status = number' in place of what it leaves alone. Lines that
+begin with # are comments.
+
+Two lists are not written out, since they would take most of a file: public_keys has, for each key, which
+of the parts [keygen] gave it out, counted from 1, and ciphertexts has the first 32 bytes of SHAKE256 of
+each ciphertext.
 """
 
 import hashlib
@@ -37,10 +41,11 @@ KEPT = ("public_key", "secret_key", "ciphertext")
 
 
 class Parts:
-    """The lines of the parts so far, and the keys and the ciphertext that the last of them gave out."""
+    """The lines of the parts so far, the keys and the ciphertext that the last of them gave out, and all
+    public keys."""
 
     def __init__(self, s):
-        self.s, self.lines, self.above = s, [], {}
+        self.s, self.lines, self.above, self.public_keys = s, [], {}, []
 
     def add(self, name, *inputs, note=None, status=0):
         """Adds one call; what it gives."""
@@ -48,18 +53,28 @@ class Parts:
         assert got.status == status
         given = dict(zip(kindi.CALLS[name].inputs, inputs))
         shown = {key: data for key, data in given.items() if data != self.above.get(key)}
+        self.public_keys += [data for key, data in got.outputs.items() if key == "public_key"]
         self.lines += [f"# {note}"] * (note is not None) + [f"[{name}]"]
         if status:
-            self.lines += hexadecimal(shown) + [f"status = {status}", ""]
+            self.lines += self.texts(shown) + [f"status = {status}", ""]
         else:
             numbers = [f"{key} = {' '.join(map(str, right))}" for key, right in got.values.items()]
-            self.lines += hexadecimal({**shown, **got.outputs}) + numbers + [""]
+            self.lines += self.texts({**shown, **got.outputs}) + numbers + [""]
             self.above.update({key: data for key, data in got.outputs.items() if key in KEPT})
         return got
 
+    def texts(self, given):
+        """The lines of inputs and outputs."""
+        return [f"{key} = {self.text(key, data)}".rstrip() for key, data in given.items()]
 
-def hexadecimal(slices):
-    return [f"{key} = {data.hex()}".rstrip() for key, data in slices.items()]
+    def text(self, key, data):
+        if key == "count":
+            return str(data)
+        if key == "public_keys":
+            return " ".join(str(1 + self.public_keys.index(one)) for one in kindi.items(data, self.s.public_key))
+        if key == "ciphertexts":
+            return " ".join(hashlib.shake_256(one).hexdigest(32) for one in kindi.items(data, self.s.ciphertext))
+        return data.hex()
 
 
 def key_inputs(number, s):
@@ -90,6 +105,33 @@ def refused(parts, coins):
     parts.add("noise", flipped, coins, b"", note="the first bit of the key changed", status=8)
 
 
+def recipients(parts, number):
+    """Encryptions to several recipients, each named by the place of its key pair, from 1."""
+    s, most = parts.s, kindi.MOST_RECIPIENTS
+    for place in range(len(parts.public_keys) + 1, most + 1):
+        seeds = [draw(number, f"{name} of key pair {place}", s.seed) for name in ("mu", "gamma", "z")]
+        parts.add("keygen", *seeds, note=f"key pair {place}")
+
+    def each(places, size, note, status=0):
+        """One message of a size to some recipients; where it is refused by 14 the last has the first's coins."""
+        keys = b"".join(parts.public_keys[place - 1] for place in places)
+        coins = draw(number, f"coins of {note}", len(places) * s.coins)
+        if status == 14:
+            coins = coins[:-s.coins] + coins[:s.coins]
+        message = draw(number, f"message of {note}", size)
+        parts.add("encrypt_each", len(places), keys, coins, message, note=note, status=status)
+
+    each([1], 0, "one recipient, an empty message")
+    each([3, 2], s.message // 2, "two recipients")
+    each(range(1, 9), 0, "eight recipients, an empty message")
+    each(range(most, 0, -1), s.message, "twelve recipients, the longest message")
+    each([5, 7, 5], 1, "three recipients, two with the same key")
+    each(range(1, most + 1), 1, "the first and the last of twelve recipients have equal coins", 14)
+    each([4, 4], 1, "the same key twice with equal coins", 14)
+    each([], 1, "no recipient", 13)
+    each([*range(1, most + 1), 1], 1, "thirteen recipients", 13)
+
+
 def known_answers(number, s):
     parts = Parts(s)
     first, *others = key_inputs(number, s)
@@ -110,6 +152,7 @@ def known_answers(number, s):
         keys = parts.add("keygen", *seeds, note=note).outputs
         made = parts.add("encaps", keys["public_key"], seeds[0][:1] * s.coins).outputs
         parts.add("decaps", keys["secret_key"], made["ciphertext"])
+    recipients(parts, number)
     return parts.lines
 
 

@@ -1,17 +1,17 @@
 -- The running calls: a call of a set that there is, with outputs of their exact lengths and a work area that is long enough,
 -- answers what the theorems speak of; and a call that returns 0 has answered. Assumes nothing.
 use mathlib.Core.Path.{_≡_, refl, ap, _∙_}
-use mathlib.Core.Bool.{Bool, true, false, _&&_}
+use mathlib.Core.Bool.{Bool, true, false, not, _&&_}
 use mathlib.Core.List.{List}
-use Prim.Native.Nat.{ℕ, _-_, _≤_, _<_}
+use Prim.Native.Nat.{ℕ, _-_, _*_, _≤_, _<_}
 use native.Mathlib.Omega.{arith}
 use borrow.Author.Tests.{eq-eqb, le-leb, not-false}
 use lib.Dec.{lit<}
 use Rattle.kindi.specs.declared.Params.{Params}
 use Rattle.kindi.specs.Params.{isSet, ofSet, publicLength, secretLength, ciphertextLength, paddedLength, keygenWork, encryptWork, decryptWork, noiseWork}
 use Rattle.kindi.specs.Decrypt.{Ending, blank, marked, other}
-use Rattle.kindi.specs.Answers.{Answer, refused, answered, refuseIf, then, keygen, encrypt, encaps, recoveredCoins, plain, decrypt, decaps, noiseOf}
-use Rattle.kindi.specs.Calls.{number, inSet, keygenCall, encryptCall, encapsCall, decryptCall, decapsCall, noiseCall}
+use Rattle.kindi.specs.Answers.{Answer, refused, answered, refuseIf, then, keygen, encrypt, encryptEach, encaps, recoveredCoins, plain, decrypt, decaps, noiseOf}
+use Rattle.kindi.specs.Calls.{number, inSet, keygenCall, encryptCall, encryptEachCall, encapsCall, decryptCall, decapsCall, noiseCall}
 use Rattle.kindi.proofs.Chains.{never, passed}
 
 -- Of a set that there is a call answers what it answers over the set's parameters.
@@ -38,6 +38,12 @@ module _ (set : ℕ) (there : isSet set ≡ true) where
   unfolding encryptCall
   encrypt-called pk coins message ea h =
       in-set set _ there ∙ ap (λ (r : Bool). encrypt P r pk coins message) (pass (eq-eqb _ _ ea) (le-leb _ _ h))
+
+  pub encrypt-each-called : (count : ℕ) (keys list message : List ℕ) {a w : ℕ} → a ≡ count * ciphertextLength P → encryptWork P ≤ w
+      → encryptEachCall set count keys list message a w ≡ encryptEach P true count keys list message
+  unfolding encryptEachCall
+  encrypt-each-called count keys list message ea h =
+      in-set set _ there ∙ ap (λ (r : Bool). encryptEach P r count keys list message) (pass (eq-eqb _ _ ea) (le-leb _ _ h))
 
   pub encaps-called : (pk coins : List ℕ) {a b w : ℕ} → a ≡ P .coins → b ≡ ciphertextLength P → encryptWork P ≤ w
       → encapsCall set pk coins a b w ≡ encaps P true pk coins
@@ -102,6 +108,10 @@ module _ (P : Params) (room : Bool) where
   unfolding encrypt
   encrypt-proper pk coins message = search (proper-check, proper-answered, lit<) depth 9
 
+  pub encrypt-each-proper : (count : ℕ) (keys list message : List ℕ) → Proper (encryptEach P room count keys list message)
+  unfolding encryptEach
+  encrypt-each-proper count keys list message = search (proper-check, proper-answered, lit<) depth 9
+
   pub encaps-proper : (pk coins : List ℕ) → Proper (encaps P room pk coins)
   unfolding encaps
   encaps-proper pk coins = search (proper-check, proper-answered, lit<) depth 9
@@ -117,6 +127,18 @@ module _ (P : Params) (room : Bool) where
   pub noise-proper : (sk coins message : List ℕ) → Proper (noiseOf P room sk coins message)
   unfolding noiseOf
   noise-proper sk coins message = search (proper-check, proper-answered, lit<) depth 9
+
+-- A number that is not that of this check: it passed, and the number is that of what comes next.
+pub goes-on : {A : Type 0} (bad : Bool) (n : ℕ) {m : ℕ} (next : Answer A) → (n ≡ m → ⊥) → number (refuseIf bad n next) ≡ m
+    → (bad ≡ false) × (number next ≡ m)
+unfolding refuseIf number
+goes-on true n next apart e = absurd (apart e)
+goes-on false n next apart e = (refl, e)
+
+-- A call by set number that returns another number than 1 is of a set that there is.
+other-than-1 : {A : Type 0} (set : ℕ) (answer : Params → Answer A) {m : ℕ} → (1 ≡ m → ⊥) → number (inSet set answer) ≡ m → isSet set ≡ true
+unfolding inSet
+other-than-1 set answer apart e = not-false _ (goes-on (not (isSet set)) 1 _ apart e .0)
 
 -- A call by set number that returns 0 is of a set that there is, and has values.
 abbrev pub Succeeded : {A : Type 0} → ℕ → Answer A → Type 0
@@ -140,6 +162,16 @@ module _ (set : ℕ) where
       → Succeeded set (encryptCall set pk coins message a w)
   unfolding encryptCall
   encrypt-zero pk coins message a w = succeeded set _ (encrypt-proper (ofSet set) _ pk coins message)
+
+  pub encrypt-each-zero : (count : ℕ) (keys list message : List ℕ) (a w : ℕ) → number (encryptEachCall set count keys list message a w) ≡ 0
+      → Succeeded set (encryptEachCall set count keys list message a w)
+  unfolding encryptEachCall
+  encrypt-each-zero count keys list message a w = succeeded set _ (encrypt-each-proper (ofSet set) _ count keys list message)
+
+  pub encrypt-each-set : (count : ℕ) (keys list message : List ℕ) (a w : ℕ) {m : ℕ} → (1 ≡ m → ⊥)
+      → number (encryptEachCall set count keys list message a w) ≡ m → isSet set ≡ true
+  unfolding encryptEachCall
+  encrypt-each-set count keys list message a w = other-than-1 set _
 
   pub encaps-zero : (pk coins : List ℕ) (a b w : ℕ) → number (encapsCall set pk coins a b w) ≡ 0
       → Succeeded set (encapsCall set pk coins a b w)

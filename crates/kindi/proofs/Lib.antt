@@ -10,6 +10,8 @@ pub mod Strict
 pub mod Value
 pub mod Rounding
 pub mod Correct
+pub mod Lists
+pub mod Recipients
 pub mod Called
 pub mod Examples
 pub mod Theorems

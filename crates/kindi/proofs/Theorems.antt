@@ -21,5 +21,13 @@ pub use Rattle.kindi.proofs.Correct.{clear-key-returns}
 pub use Rattle.kindi.proofs.Correct.{clear-injective}
 -- Clear is what the noise call says: under any secret key of which it answers clear, the pair comes back.
 pub use Rattle.kindi.proofs.Correct.{noise-clear}
+-- Each part of an encryption to several recipients is what encryption to that recipient alone gives.
+pub use Rattle.kindi.proofs.Recipients.{each-part}
+-- It depends on no other recipient's key or coins.
+pub use Rattle.kindi.proofs.Recipients.{each-own}
+-- Whatever the seeds of a recipient, its clear pair comes back exactly from its part.
+pub use Rattle.kindi.proofs.Recipients.{clear-each-returns}
+-- Refusal 14 is exactly that some two recipients have equal coins, where the checks before it are passed.
+pub use Rattle.kindi.proofs.Recipients.{each-equal-iff}
 -- The examples of 01.
 pub use Rattle.kindi.proofs.Examples.{examples}

@@ -1,6 +1,6 @@
 -- Answers (01, "When a call is turned down"): a refusal with its number, or success with values; each call as a chain of checks
--- in the order of the numbers, over any parameters. `room` says that every output has its exact length and the work area
--- is long enough. Rests on the definitions of the scheme.
+-- in the order 1, 13, 2, 3, 4, 14, 5, 6, 7, 8, 9, which is 01's with 02's numbers at their places, over any parameters. `room` says
+-- that every output has its exact length and the work area is long enough. Rests on the definitions of the scheme.
 use mathlib.Core.Bool.{Bool, true, false, cond, not, _&&_, _||_}
 use mathlib.Core.List.{List, [], _∷_}
 use Prim.Native.Nat.{ℕ, _*_, _/_, _%_}
@@ -10,7 +10,7 @@ use Rattle.keccak.specs.Lists.{tabulate}
 use Rattle.ring.specs.Integers.{largest}
 use Rattle.kindi.specs.declared.Params.{Params}
 use Rattle.kindi.specs.Params.{publicLength, secretLength, ciphertextLength, paddedLength}
-use Rattle.kindi.specs.Keys.{publicKey, secretKey, publicPart, secretSeed, matrixSeed}
+use Rattle.kindi.specs.Keys.{joined, publicKey, secretKey, publicPart, secretSeed, matrixSeed}
 use Rattle.kindi.specs.Encrypt.{padded, ciphertext}
 use Rattle.kindi.specs.Decrypt.{roundedCoins, remainders, errorsFit, unmasked, Ending, blank, marked, other, ending}
 use Rattle.kindi.specs.Kem.{digest, sharedKey}
@@ -33,6 +33,32 @@ then (answered a) next = next a
 -- The length is another one.
 abbrev pub differs : ℕ → ℕ → Bool
 differs a b = not (eqb a b)
+
+-- Two lists are the same.
+unfoldable pub same : List ℕ → List ℕ → Bool
+same [] [] = true
+same [] (y ∷ ys) = false
+same (x ∷ xs) [] = false
+same (x ∷ xs) (y ∷ ys) = eqb x y && same xs ys
+
+-- At least one of the tests holds.
+unfoldable pub some : List Bool → Bool
+some [] = false
+some (b ∷ bs) = b || some bs
+
+-- Part number i of a string of parts of one length, one after another.
+abbrev pub partAt : ℕ → List ℕ → ℕ → List ℕ
+partAt long string i = take long (drop (i * long) string)
+
+-- Public key, coins and ciphertext number i of a list of them.
+unfoldable pub keyAt : Params → List ℕ → ℕ → List ℕ
+keyAt P keys i = partAt (publicLength P) keys i
+
+unfoldable pub coinsAt : Params → List ℕ → ℕ → List ℕ
+coinsAt P list i = partAt (P .coins) list i
+
+unfoldable pub ciphertextAt : Params → List ℕ → ℕ → List ℕ
+ciphertextAt P cts i = partAt (ciphertextLength P) cts i
 
 -- What the calls yield.
 pub record Keys : Type 0 where
@@ -69,6 +95,29 @@ encrypt P room pk coins message =
     (refuseIf (not room) 4
     (answered (ciphertext P pk coins message)))))
 
+-- A number of recipients (02, No. 1: ovens): 1 to 12.
+abbrev pub isCount : ℕ → Bool
+isCount count = leb 1 count && leb count 12
+
+-- Two of the recipients have equal coins: those of some place j and of some place i before it.
+unfoldable pub equalCoins : Params → ℕ → List ℕ → Bool
+equalCoins P count list = some (tabulate count (λ j. some (tabulate j (λ i. same (coinsAt P list i) (coinsAt P list j)))))
+
+-- The ciphertexts of one message for the recipients, in the order of their keys.
+unfoldable pub ciphertexts : Params → ℕ → List ℕ → List ℕ → List ℕ → List ℕ
+ciphertexts P count keys list message = joined count (λ i. ciphertext P (keyAt P keys i) (coinsAt P list i) message)
+
+-- encrypt_each (02, No. 1): refusals 13, 2, 3, 4 and 14.
+unfoldable pub encryptEach : Params → Bool → ℕ → List ℕ → List ℕ → List ℕ → Answer (List ℕ)
+encryptEach P room count keys list message =
+    refuseIf (not (isCount count)) 13
+    (refuseIf (differs (length keys) (count * publicLength P)) 2
+    (refuseIf (differs (length list) (count * P .coins)) 2
+    (refuseIf (leb (paddedLength P) (length message)) 3
+    (refuseIf (not room) 4
+    (refuseIf (equalCoins P count list) 14
+    (answered (ciphertexts P count keys list message)))))))
+
 -- encaps: refusals 2 and 4.
 unfoldable pub encaps : Params → Bool → List ℕ → List ℕ → Answer Shared
 encaps P room pk coins =
@@ -90,13 +139,6 @@ unfoldable pub plain : List ℕ → Ending → Answer Plain
 plain coins blank = refused 6
 plain coins (marked message) = answered (record { coins = coins; message = message })
 plain coins other = refused 6
-
--- Two lists are the same.
-unfoldable pub same : List ℕ → List ℕ → Bool
-same [] [] = true
-same [] (y ∷ ys) = false
-same (x ∷ xs) [] = false
-same (x ∷ xs) (y ∷ ys) = eqb x y && same xs ys
 
 -- decrypt: refusals 2, 4, 5 and 6.
 unfoldable pub decrypt : Params → Bool → List ℕ → List ℕ → Answer Plain
@@ -137,10 +179,7 @@ noiseOf P room sk coins message =
     (refuseIf (not (agrees P sk)) 8
     (answered (record { isClear = clearUnder P sk coins message; largest = largestUnder P sk coins message }))))))
 
--- Coins number i of a list of coins, and how many there are.
-unfoldable pub coinsAt : Params → List ℕ → ℕ → List ℕ
-coinsAt P list i = take (P .coins) (drop (i * P .coins) list)
-
+-- How many coins a list has.
 unfoldable pub coinsCount : Params → List ℕ → ℕ
 coinsCount P list = length list / P .coins
 
@@ -151,10 +190,6 @@ isList P list = eqb (length list % P .coins) 0 && (leb 1 (coinsCount P list) && 
 -- Which of the listed coins are clear with the message.
 unfoldable pub clearPlaces : Params → List ℕ → List ℕ → List ℕ → List Bool
 clearPlaces P sk message list = tabulate (coinsCount P list) (λ i. clearUnder P sk (coinsAt P list i) message)
-
-unfoldable pub some : List Bool → Bool
-some [] = false
-some (b ∷ bs) = b || some bs
 
 -- choose: refusals 2, 3, 4, 8 and 9; on success the place returned is any of those that are clear.
 unfoldable pub choose : Params → Bool → List ℕ → List ℕ → List ℕ → Answer (List Bool)

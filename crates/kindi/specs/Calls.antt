@@ -2,12 +2,12 @@
 -- area at exit. Rests on Answers.
 use mathlib.Core.Bool.{Bool, cond, not, _&&_}
 use mathlib.Core.List.{List, _++_}
-use Prim.Native.Nat.{ℕ, _-_}
+use Prim.Native.Nat.{ℕ, _-_, _*_}
 use lib.Dec.{eqb, leb}
 use lib.ListN.{length, replicate}
 use Rattle.kindi.specs.declared.Params.{Params}
 use Rattle.kindi.specs.Params.{isSet, ofSet, publicLength, secretLength, ciphertextLength, paddedLength, keygenWork, encryptWork, decryptWork, noiseWork}
-use Rattle.kindi.specs.Answers.{Answer, refused, answered, refuseIf, Keys, Shared, Plain, Size, keygen, encrypt, encaps, decrypt, decaps, noiseOf, choose}
+use Rattle.kindi.specs.Answers.{Answer, refused, answered, refuseIf, Keys, Shared, Plain, Size, keygen, encrypt, encryptEach, encaps, decrypt, decaps, noiseOf, choose}
 
 -- The returned number: 0 is success.
 unfoldable pub number : {A : Type 0} → Answer A → ℕ
@@ -37,6 +37,12 @@ keygenCall set μ γ z publicRoom secretRoom workRoom =
 unfoldable pub encryptCall : ℕ → List ℕ → List ℕ → List ℕ → ℕ → ℕ → Answer (List ℕ)
 encryptCall set pk coins message room workRoom =
     inSet set (λ P. encrypt P (eqb room (ciphertextLength P) && leb (encryptWork P) workRoom) pk coins message)
+
+-- kindi_encrypt_each; the work area is as long as that of kindi_encrypt, whatever the number of recipients.
+unfoldable pub encryptEachCall : ℕ → ℕ → List ℕ → List ℕ → List ℕ → ℕ → ℕ → Answer (List ℕ)
+encryptEachCall set count keys list message room workRoom =
+    inSet set (λ P.
+    encryptEach P (eqb room (count * ciphertextLength P) && leb (encryptWork P) workRoom) count keys list message)
 
 -- kindi_encaps.
 unfoldable pub encapsCall : ℕ → List ℕ → List ℕ → ℕ → ℕ → ℕ → Answer Shared

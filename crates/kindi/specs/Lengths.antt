@@ -24,7 +24,7 @@ pub record LengthsOfSets : Type 0 where
 -- The limit: no call asks for a work area of more than 65,536 bytes.
 pub record WorkAreas (P : Params) : Type 0 where
   pub keygen : keygenWork P ≤ 65536
-  -- encrypt and encaps
+  -- encrypt, encrypt_each and encaps
   pub encrypt : encryptWork P ≤ 65536
   -- decrypt and decaps
   pub decrypt : decryptWork P ≤ 65536

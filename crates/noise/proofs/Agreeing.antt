@@ -1,13 +1,12 @@
 -- Laws of the stored polynomials beside those of b: bytes that are the same, and b without its low bits. Assumes nothing.
 use mathlib.Core.Path.{_≡_, refl, sym, ap, ap₂, _∙_}
-use mathlib.Core.Bool.{Bool, true, false, _&&_}
+use mathlib.Core.Bool.{Bool, _&&_}
 use mathlib.Core.List.{List, [], _∷_, _++_, map, map-append}
 use Prim.Native.Nat.{ℕ, zero, suc, _-_, _*_, _^_, _<_}
-use native.Mathlib.Nat.{not-suc-le-zero, le-of-suc-le-suc, suc-inj, div-one}
+use native.Mathlib.Nat.{suc-inj, div-one}
 use native.Mathlib.Omega.{arith}
-use borrow.Author.Tests.{eq-eqb}
 use lib.Dec.{eqb}
-use lib.ListN.{length, getD, take, drop, length-take, length-map, take-append-drop}
+use lib.ListN.{length, take, drop, length-take, length-map, take-append-drop}
 use lib.Pow.{pow-pos}
 use lib.Seq.{take-take}
 use Rattle.bits.specs.Bits.{Below, pack, unpack, lowBits}
@@ -18,40 +17,17 @@ use Rattle.kindi.specs.declared.Params.{Params}
 use Rattle.kindi.specs.Params.{WellFormed, modulus, lengthOf, storedLength, publicLength, secretLength}
 use Rattle.kindi.specs.Keys.{compress, joined, public, publicKey, publicPart, matrixSeed, secretSeed}
 use Rattle.kindi.specs.Answers.{same, agrees}
+use Rattle.kindi.proofs.Chains.{same-refl}
 use Rattle.kindi.proofs.Strings.{length-joined, joined-below, length-string}
 use Rattle.keys.specs.Layout.{storedFrom}
 use Rattle.keys.proofs.Made.{low-same, compressed-below, keyStreams, stored-of}
 use Rattle.noise.specs.Terms.{droppedBits}
 use Rattle.noise.specs.Rooms.{valueOf}
 
-and-true : (t : Bool) → (t && true) ≡ t
-and-true true = refl
-and-true false = refl
-
-and-assoc : (s t u : Bool) → ((s && t) && u) ≡ (s && (t && u))
-and-assoc true t u = refl
-and-assoc false t u = refl
-
--- One byte more.
-pub same-more : (xs ys : List ℕ) (i : ℕ) → i < length xs → length xs ≡ length ys
-    → (same (take i xs) (take i ys) && eqb (getD xs i 0) (getD ys i 0)) ≡ same (take (suc i) xs) (take (suc i) ys)
-unfolding same
-same-more [] ys i h e = absurd (not-suc-le-zero h)
-same-more (x ∷ xs) [] i h e = absurd (omega arith)
-same-more (x ∷ xs) (y ∷ ys) zero h e = sym (and-true (eqb x y))
-same-more (x ∷ xs) (y ∷ ys) (suc i) h e =
-    and-assoc (eqb x y) (same (take i xs) (take i ys)) (eqb (getD xs i 0) (getD ys i 0))
-    ∙ ap (λ (t : Bool). eqb x y && t) (same-more xs ys i (le-of-suc-le-suc h) (suc-inj e))
-
-same-self : (xs : List ℕ) → same xs xs ≡ true
-unfolding same
-same-self [] = refl
-same-self (x ∷ xs) = ap₂ _&&_ (eq-eqb x x refl) (same-self xs)
-
 -- The same bytes after two strings change nothing.
 pub same-after : (xs ys zs : List ℕ) → length xs ≡ length ys → same (xs ++ zs) (ys ++ zs) ≡ same xs ys
 unfolding same
-same-after [] [] zs e = same-self zs
+same-after [] [] zs e = same-refl zs
 same-after [] (y ∷ ys) zs e = absurd (omega arith)
 same-after (x ∷ xs) [] zs e = absurd (omega arith)
 same-after (x ∷ xs) (y ∷ ys) zs e = ap (λ (t : Bool). eqb x y && t) (same-after xs ys zs (suc-inj e))

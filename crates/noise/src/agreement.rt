@@ -6,20 +6,7 @@ ghost use Rattle.kindi.specs.Answers.{same};
 ghost use Rattle.noise.specs.Rooms.{AgreementRoom};
 ghost use Rattle.noise.specs.Terms.{droppedBits};
 use kindi::Params;
-
-// Whether two strings of one length are the same; every byte is read.
-fn same_bytes(a: &[u8], b: &[u8]) -> bool
-    requires { ⌜ length (now a) ≡ length (now b) ⌝ }
-    ensures { λ r. ⌜ r ≡ same (now (a .entry)) (now (b .entry)) ⌝ }
-{
-    let mut all = true;
-    let mut i = 0;
-    while i < a.len() {
-        all = all & (a[i] == b[i]);
-        i += 1;
-    }
-    all
-}
+use vectors::strings::same_bytes;
 
 fn bytes() -> [u8; 3072] {
     [0; 3072]

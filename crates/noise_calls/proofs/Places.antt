@@ -14,31 +14,12 @@ use Rattle.kindi.specs.declared.Params.{Params}
 use Rattle.kindi.specs.Params.{WellFormed, lengthOf}
 use Rattle.kindi.specs.Answers.{some, coinsAt, coinsCount, clearPlaces, clearUnder}
 use Rattle.kindi.proofs.Chains.{never, both}
+use Rattle.kindi.proofs.Lists.{some-more, parts-within}
 use Rattle.vectors.proofs.Amounts.{part-length}
 use Rattle.noise.specs.Rooms.{MeasureRoom, Kept}
 use Rattle.noise_calls.specs.Fitting.{Search, SearchRoom}
 
 -- ---- the search
-
-or-false : (a : Bool) → a || false ≡ a
-or-false true = refl
-or-false false = refl
-
-or-assoc : (a b c : Bool) → a || (b || c) ≡ (a || b) || c
-or-assoc true b c = refl
-or-assoc false b c = refl
-
--- One more at the end.
-some-end : (xs : List Bool) (b : Bool) → some (xs ++ (b ∷ [])) ≡ some xs || b
-unfolding some
-some-end [] b = or-false b
-some-end (x ∷ xs) b = ap (λ (t : Bool). x || t) (some-end xs b) ∙ or-assoc x (some xs) b
-
-some-more : (i : ℕ) (f : ℕ → Bool) → some (tabulate (i + 1) f) ≡ some (tabulate i f) || f i
-unfolding tabulate
-some-more i f =
-    let last : i + 0 ≡ i = omega arith in
-    ap some (tabulate-add i 1 f ∙ ap (λ (k : ℕ). tabulate i f ++ (f k ∷ [])) last) ∙ some-end (tabulate i f) (f i)
 
 -- What is known after the first i: whether one is clear, and then the place of such.
 pub record Tried (f : ℕ → Bool) (i : ℕ) (found : Bool) (place : ℕ) : Type 0 where
@@ -73,9 +54,7 @@ tried-all f n place t = record {
 
 -- Coins number i lie within the list.
 pub coins-within : (k long i : ℕ) → i < long / k → i * k + k ≤ long
-coins-within k long i h =
-    let rows : suc i * k ≤ long / k * k = mul-le-mul-right k h in
-    omega (arith, rows, div-mul-le-self long k)
+coins-within k long i h = omega (arith, parts-within k h, div-mul-le-self long k)
 
 -- They are the part that the code reads.
 pub coins-part : (P : Params) (list : List ℕ) (i at : ℕ) → at ≡ i * P .coins → take (at + P .coins - at) (drop at list) ≡ coinsAt P list i

@@ -9,12 +9,12 @@ use lib.ListN.{length, take, replicate, length-replicate}
 use lib.Seq.{take-append-seam}
 use Rattle.kindi.specs.declared.Params.{Params}
 use Rattle.kindi.specs.Params.{isSet, ofSet, ciphertextLength, encryptWork}
-use Rattle.kindi.specs.Answers.{answered, Keys, Plain, Shared, Size, keygen, encrypt, encaps, decrypt, decaps, noiseOf}
-use Rattle.kindi.specs.Calls.{workAfter, messageOutput}
+use Rattle.kindi.specs.Answers.{answered, Keys, Plain, Shared, Size, keygen, encrypt, encryptEach, encaps, decrypt, decaps, noiseOf}
+use Rattle.kindi.specs.Calls.{number, workAfter, messageOutput}
 use Rattle.kindi.proofs.Called as Called
 use Rattle.calls.proofs.Ends.{given}
 use Rattle.calls.proofs.Checked.{answered-number, given-returned}
-use Rattle.scheme.specs.Leaves.{KeygenLeaves, EncryptLeaves, EncapsLeaves, DecryptLeaves, DecapsLeaves, NoiseLeaves, IsPair}
+use Rattle.scheme.specs.Leaves.{KeygenLeaves, EncryptLeaves, EncryptEachLeaves, EncapsLeaves, DecryptLeaves, DecapsLeaves, NoiseLeaves, IsPair}
 
 -- Messages of one length that are shown the same are the same.
 shown-same : (room : ℕ) (m m' : List ℕ) → length m ≡ length m' → messageOutput room m ≡ messageOutput room m' → m ≡ m'
@@ -84,6 +84,33 @@ module _ (set : ℕ) where
         work-long = enough;
         exit = record { returned = answered-number a; ciphertext = given (λ (c : List ℕ). c) room a; wiped = refl };
       }
+
+  -- encrypt_each answered.
+  pub encrypt-each-zero : {count : ℕ} {keys list message : List ℕ} {status : ℕ} {cts : List ℕ}
+      → EncryptEachLeaves set count keys list message status cts → status ≡ 0
+      → (isSet set ≡ true) × (encryptEach P true count keys list message ≡ answered cts)
+  encrypt-each-zero {count} {keys} {list} {message} left zero =
+      let e = left .exit in
+      let success = Called.encrypt-each-zero set count keys list message (length (left .cts)) (length (left .work)) (sym (e .returned) ∙ zero) in
+      let here = success .0 in
+      let a = success .1 in (
+        here,
+        sym (Called.encrypt-each-called set here count keys list message (left .ciphers-long) (left .work-long)) ∙ a .1
+            ∙ ap answered (given (λ (c : List ℕ). c) (left .cts) (a .1) ∙ sym (e .ciphertexts)),
+      )
+
+  -- What it returned is the number of its answer, where there is such a set.
+  pub encrypt-each-told : {count : ℕ} {keys list message : List ℕ} {status : ℕ} {cts : List ℕ}
+      → EncryptEachLeaves set count keys list message status cts → isSet set ≡ true
+      → status ≡ number (encryptEach P true count keys list message)
+  encrypt-each-told {count} {keys} {list} {message} left here =
+      left .exit .returned ∙ ap number (Called.encrypt-each-called set here count keys list message (left .ciphers-long) (left .work-long))
+
+  -- Where that is not 1, there is.
+  pub encrypt-each-there : {count : ℕ} {keys list message : List ℕ} {status : ℕ} {cts : List ℕ}
+      → EncryptEachLeaves set count keys list message status cts → (1 ≡ status → ⊥) → isSet set ≡ true
+  encrypt-each-there {count} {keys} {list} {message} left other =
+      Called.encrypt-each-set set count keys list message (length (left .cts)) (length (left .work)) other (sym (left .exit .returned))
 
   -- encaps answered.
   pub encaps-zero : {pk coins : List ℕ} {status : ℕ} {key ct : List ℕ} → EncapsLeaves set pk coins status key ct → status ≡ 0

@@ -3,11 +3,12 @@
 -- the exit records that the contracts of `src/lib.rt` promise.
 use mathlib.Core.Path.{_≡_}
 use mathlib.Core.List.{List}
-use Prim.Native.Nat.{ℕ, _-_, _≤_}
+use Prim.Native.Nat.{ℕ, _-_, _*_, _≤_}
 use lib.ListN.{length}
 use Rattle.kindi.specs.Params.{ofSet, publicLength, secretLength, ciphertextLength, paddedLength, keygenWork, encryptWork, decryptWork, noiseWork}
 use Rattle.kindi.specs.Calls.{messageOutput}
 use Rattle.encryption_calls.specs.Exits.{KeygenExit, EncryptExit, EncapsExit}
+use Rattle.recipients.specs.Exits.{EncryptEachExit}
 use Rattle.decryption_calls.specs.Exits.{DecryptExit, DecapsExit}
 use Rattle.noise_calls.specs.Exits.{NoiseExit}
 
@@ -30,6 +31,15 @@ pub record EncryptLeaves (set : ℕ) (pk coins message : List ℕ) (status : ℕ
   pub cipher-long : length ct ≡ ciphertextLength (ofSet set)
   pub work-long : encryptWork (ofSet set) ≤ length work
   pub exit : EncryptExit set pk coins message ct work status ct' work'
+
+-- encrypt_each left a status and ciphertexts.
+pub record EncryptEachLeaves (set count : ℕ) (keys list message : List ℕ) (status : ℕ) (cts' : List ℕ) : Type 0 where
+  pub cts : List ℕ
+  pub work : List ℕ
+  pub work' : List ℕ
+  pub ciphers-long : length cts ≡ count * ciphertextLength (ofSet set)
+  pub work-long : encryptWork (ofSet set) ≤ length work
+  pub exit : EncryptEachExit set count keys list message cts work status cts' work'
 
 -- encaps left a status, a shared key and a ciphertext.
 pub record EncapsLeaves (set : ℕ) (pk coins : List ℕ) (status : ℕ) (key' ct' : List ℕ) : Type 0 where

@@ -4,6 +4,7 @@ ghost use mathlib.Core.Path.{_≡_};
 ghost use lib.ListN.{length};
 ghost use Rattle.hash.specs.Shake.{shake128, shake256};
 ghost use Rattle.encryption_calls.specs.Exits.{KeygenExit, EncryptExit, EncapsExit};
+ghost use Rattle.recipients.specs.Exits.{EncryptEachExit};
 ghost use Rattle.decryption_calls.specs.Exits.{DecryptExit, DecapsExit};
 ghost use Rattle.noise_calls.specs.Exits.{NoiseExit, ChooseExit};
 
@@ -54,6 +55,23 @@ pub extern "C" fn kindi_encrypt(
         (now (ct .entry)) (now (work .entry)) r (now (ct .exit)) (now (work .exit)) ⌝ }
 {
     encryption_calls::encrypt::encrypt(set, pk, coins, message, ct, work)
+}
+
+// Encrypts one message to several recipients, each with a public key and coins of its own.
+#[no_mangle]
+pub extern "C" fn kindi_encrypt_each(
+    set: u32,
+    count: u32,
+    keys: &[u8],
+    list: &[u8],
+    message: &[u8],
+    cts: &mut [u8],
+    work: &mut [u8],
+) -> u32
+    ensures { λ r. ⌜ EncryptEachExit set count (now (keys .entry)) (now (list .entry)) (now (message .entry))
+        (now (cts .entry)) (now (work .entry)) r (now (cts .exit)) (now (work .exit)) ⌝ }
+{
+    recipients::each::encrypt_each(set, count, keys, list, message, cts, work)
 }
 
 // Decrypts a ciphertext with a secret key.

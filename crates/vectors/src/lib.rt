@@ -1,5 +1,7 @@
-// Vectors of polynomials, one after another in a slice, with coefficients modulo 2^16; the lengths of a set's strings.
+// Vectors of polynomials, one after another in a slice, with coefficients modulo 2^16; the lengths of a set's strings; whether
+// two strings are the same.
 pub mod lengths;
+pub mod strings;
 
 ghost use mathlib.Core.Path.{_≡_};
 ghost use mathlib.Core.List.{map};

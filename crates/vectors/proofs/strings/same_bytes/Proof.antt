@@ -1,28 +1,29 @@
--- `noise::agreement::same_bytes` meets its contract: after i turns it is known whether the first i bytes are the same.
+-- `vectors::strings::same_bytes` meets its contract: after i turns it is known whether the first i bytes are the same.
 -- Assumes nothing.
 use mathlib.Core.Bool.{Bool, _&&_}
 use mathlib.Core.Path.{_≡_, refl, ap, ap₂, _∙_}
-use Prim.Native.Nat.{_-_, _≤_}
+use Prim.Native.Nat.{_-_}
 use native.Mathlib.Numerals.{add-one}
 use native.Mathlib.Omega.{arith}
 use denote.Ref.{now}
 use lib.Dec.{eqb}
 use lib.ListN.{length, getD, take}
 use lib.Seq.{take-all}
+use Rattle.keccak.proofs.Loops.{Carried}
 use Rattle.kindi.specs.Answers.{same}
-use Rattle.noise.proofs.Agreeing.{same-more}
-use Rattle.noise.proofs.agreement.same_bytes.Statement.{statement}
-use Rattle.noise.proofs.agreement.same_bytes.Tie as tie
+use Rattle.kindi.proofs.Lists.{same-more}
+use Rattle.vectors.proofs.strings.same_bytes.Statement.{statement}
+use Rattle.vectors.proofs.strings.same_bytes.Tie as tie
 
 abbrev Inv-loop : tie.InvT-loop
-Inv-loop a b all₀ i₀ all i = (i ≤ length a) × (all ≡ same (take i a) (take i b))
+Inv-loop a b all₀ i₀ all i = Carried (length a) (λ k. same (take k a) (take k b)) i all
 
 abbrev μ-loop : tie.MeasureT-loop
 μ-loop a b all₀ i₀ all i = length a - i
 
 loop-holds : tie.Need-loop-holds Inv-loop μ-loop
 unfolding same
-loop-holds c = (omega arith, refl)
+loop-holds c = record { within = omega arith; is = refl }
 
 shared-slice-read-all : tie.Need-shared-slice-read-all Inv-loop μ-loop
 shared-slice-read-all c = omega arith
@@ -41,13 +42,13 @@ loop-again c =
     let start : tie.Start Inv-loop μ-loop = search in
     let turn : tie.At-loop Inv-loop μ-loop = search in
     let h = turn .loop in
-    let a = start .args in
-    let xs = now (a .a) in
-    let ys = now (a .b) in (
-      omega arith,
-      rw add-one (ap (λ (t : Bool). t && eqb (getD xs (h .i) 0) (getD ys (h .i) 0)) (h .inv .1) ∙
-          same-more xs ys (h .i) (omega arith) (start .pre)),
-    )
+    let xs = now (start .args .a) in
+    let ys = now (start .args .b) in
+    record {
+      within = omega arith;
+      is = rw add-one (ap (λ (t : Bool). t && eqb (getD xs (h .i) 0) (getD ys (h .i) 0)) (h .inv .is)
+          ∙ same-more xs ys (h .i) (omega arith) (start .pre));
+    }
 
 returns : tie.Need-returns Inv-loop μ-loop
 returns c =
@@ -55,7 +56,7 @@ returns c =
     let turn : tie.At-loop Inv-loop μ-loop = search in
     let h = turn .loop in
     let a = start .args in
-    h .inv .1 ∙ ap₂ same (take-all (h .i) (now (a .a)) (omega arith)) (take-all (h .i) (now (a .b)) (omega (arith, start .pre)))
+    h .inv .is ∙ ap₂ same (take-all (h .i) (now (a .a)) (omega arith)) (take-all (h .i) (now (a .b)) (omega (arith, start .pre)))
 
 pub same-bytes-spec : {M : Type 1} → statement M
 same-bytes-spec =

@@ -1,0 +1,3 @@
+-- The laws that the proofs of `recipients` share.
+pub mod Places
+pub mod Checks

@@ -1,0 +1,4 @@
+-- What the contracts of `recipients` say.
+pub mod Status
+pub mod Rooms
+pub mod Exits
