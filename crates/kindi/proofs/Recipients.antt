@@ -6,20 +6,20 @@ use mathlib.Core.List.{List}
 use Prim.Native.Nat.{ℕ, _*_, _≤_, _<_}
 use native.Mathlib.Omega.{arith}
 use borrow.Author.Tests.{leb-true, leb-false, le-leb, lt-leb, not-false}
-use lib.ListN.{length}
 use lib.Pow.{pow-pos}
 use Rattle.keccak.specs.Lists.{tabulate}
 use Rattle.bits.specs.Bits.{Below}
 use Rattle.ring.proofs.Ring.{sides}
 use Rattle.kindi.specs.declared.Params.{Params}
 use Rattle.kindi.specs.Both.{Iff}
-use Rattle.kindi.specs.Params.{WellFormed, publicLength, paddedLength}
+use Rattle.kindi.specs.Params.{WellFormed}
 use Rattle.kindi.specs.Encrypt.{ciphertext}
 use Rattle.kindi.specs.Noise.{clear}
-use Rattle.kindi.specs.Answers.{Answer, answered, refuseIf, Keys, keygen, encrypt, decrypt}
+use Rattle.kindi.specs.Answers.{answered, refuseIf, Keys, keygen, encrypt, decrypt}
 use Rattle.kindi.specs.Answers.{same, some, keyAt, coinsAt, ciphertextAt, isCount, equalCoins, ciphertexts, encryptEach}
 use Rattle.kindi.specs.Calls.{number}
-use Rattle.kindi.proofs.Chains.{never, passed, passes, both, same-length, length-same, same-eq, eq-same, answered-eq, encrypted, encrypt-answers}
+use Rattle.kindi.specs.Recipients.{EachFits, TwoEqual}
+use Rattle.kindi.proofs.Chains.{never, passed, passes, both, same-length, length-same, same-eq, eq-same, answered-eq, encrypt-answers}
 use Rattle.kindi.proofs.Called.{goes-on}
 use Rattle.kindi.proofs.Lists.{some-place, some-at, part-long, part-joined}
 use Rattle.kindi.proofs.Made.{length-ciphertext, ciphertext-below}
@@ -28,25 +28,7 @@ use Rattle.kindi.proofs.Correct.{clear-returns}
 
 -- ---- what the checks say
 
--- What the checks up to 4 ask.
-pub record EachFits (P : Params) (room : Bool) (count : ℕ) (keys list message : List ℕ) : Type 0 where
-  pub some-recipients : 1 ≤ count
-  pub few-recipients : count ≤ 12
-  pub keys-long : length keys ≡ count * publicLength P
-  pub coins-long : length list ≡ count * P .coins
-  pub message-fits : length message < paddedLength P
-  pub room-there : room ≡ true
-
--- Two recipients, at any two places, have equal coins.
-pub record TwoEqual (P : Params) (count : ℕ) (list : List ℕ) : Type 0 where
-  pub first : ℕ
-  pub second : ℕ
-  pub first-there : first < count
-  pub second-there : second < count
-  pub apart : first ≡ second → ⊥
-  pub equal : coinsAt P list first ≡ coinsAt P list second
-
--- The check of 14 finds exactly those.
+-- The check of 14 finds exactly two recipients with equal coins.
 pub equal-coins-iff : (P : Params) (count : ℕ) (list : List ℕ) → Iff (equalCoins P count list ≡ true) (TwoEqual P count list)
 unfolding equalCoins
 equal-coins-iff P count list = record {

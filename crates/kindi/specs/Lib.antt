@@ -10,3 +10,4 @@ pub mod Kem
 pub mod Noise
 pub mod Answers
 pub mod Calls
+pub mod Recipients

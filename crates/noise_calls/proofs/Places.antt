@@ -1,15 +1,15 @@
 -- Laws of the search for clear coins, one after another, and of a list of coins. Assumes nothing.
 use mathlib.Core.Path.{_≡_, refl, sym, ap, ap₂, _∙_}
 use mathlib.Core.Bool.{Bool, true, false, cond, _||_}
-use mathlib.Core.List.{List, [], _∷_, _++_}
-use Prim.Native.Nat.{ℕ, suc, _+_, _-_, _*_, _/_, _%_, _≤_, _<_}
-use native.Mathlib.Nat.{mul-le-mul-left, mul-le-mul-right, mul-left-comm, div-mul-le-self}
+use mathlib.Core.List.{List}
+use Prim.Native.Nat.{ℕ, _+_, _-_, _*_, _/_, _%_, _≤_, _<_}
+use native.Mathlib.Nat.{mul-le-mul-left, mul-left-comm, div-mul-le-self}
 use native.Mathlib.Omega.{arith}
 use borrow.Author.Tests.{leb-true}
 use lib.Dec.{eqb, leb}
 use lib.ListN.{length, take, drop}
 use Rattle.keccak.specs.Lists.{tabulate}
-use Rattle.keccak.proofs.Entries.{tabulate-at, tabulate-add}
+use Rattle.keccak.proofs.Entries.{tabulate-at}
 use Rattle.kindi.specs.declared.Params.{Params}
 use Rattle.kindi.specs.Params.{WellFormed, lengthOf}
 use Rattle.kindi.specs.Answers.{some, coinsAt, coinsCount, clearPlaces, clearUnder}

@@ -1,6 +1,6 @@
 -- The checks of encrypt_each, and its exits: what the code knows of its parameters, its status, the comparison of the coins and
 -- what the inner function leaves gives what the call ensures; and before that, what the inner functions ask. Assumes nothing.
-use mathlib.Core.Path.{_≡_, sym, ap, _∙_}
+use mathlib.Core.Path.{_≡_, sym, _∙_}
 use mathlib.Core.Bool.{Bool, true, cond, not, _&&_}
 use mathlib.Core.List.{List}
 use Prim.Native.Nat.{ℕ, _*_, _≤_, _<_}
@@ -10,7 +10,7 @@ use lib.Dec.{eqb, leb}
 use lib.ListN.{length}
 use Rattle.kindi.specs.declared.Params.{Params}
 use Rattle.kindi.specs.Params.{WellFormed, isSet, ofSet, publicLength, ciphertextLength, paddedLength, encryptWork}
-use Rattle.kindi.specs.Answers.{Answer, answered, refuseIf, differs, isCount, equalCoins, ciphertexts, encryptEach}
+use Rattle.kindi.specs.Answers.{Answer, refused, answered, refuseIf, differs, isCount, equalCoins, ciphertexts, encryptEach}
 use Rattle.kindi.specs.Calls.{workAfter, inSet, encryptEachCall}
 use Rattle.kindi.proofs.Chains.{same-length}
 use Rattle.calls.proofs.Ends.{check-both, too-short, given, wiped-any}
@@ -82,16 +82,20 @@ module _ (set count : ℕ) (P : Params) (keys list message cts work : List ℕ) 
   each-behind : Checked (encryptEachCall set count keys list message (length cts) (length work)) (eachFitting P count keys list message) status
   each-behind = rw (is, are) (each-checked set count keys list message (length cts) (length work))
 
-  -- The exit of a refusal by the number of recipients or the lengths.
+  -- The exit of a refusal.
+  refusal : {need refusing : ℕ} {work' : List ℕ}
+      → encryptEachCall set count keys list message (length cts) (length work) ≡ refused refusing → need ≡ encryptWork P
+      → work' ≡ workAfter set need work → EncryptEachExit set count keys list message cts work refusing cts work'
+  refusal is-refused n w = record {
+    returned = refused-number is-refused;
+    ciphertexts = refused-output (λ c. c) cts is-refused;
+    wiped = rw (n, are) at w;
+  }
+
+  -- By the number of recipients or the lengths.
   pub each-refused : {need : ℕ} {work' : List ℕ} → (status ≡ 0 → ⊥) → need ≡ encryptWork P → work' ≡ workAfter set need work
       → EncryptEachExit set count keys list message cts work status cts work'
-  each-refused bad n w =
-      let refused = each-behind .refuses bad in
-      record {
-        returned = refused-number refused;
-        ciphertexts = refused-output (λ c. c) cts refused;
-        wiped = rw (n, are) at w;
-      }
+  each-refused bad n w = refusal (each-behind .refuses bad) n w
 
   each-long : status ≡ 0 → EachLengths set count P (length keys) (length list) (length message) (length cts) (length work)
   each-long e = each-lengths set count P (length keys) (length list) (length message) (length cts) (length work) (sym is ∙ e)
@@ -121,13 +125,7 @@ module _ (set count : ℕ) (P : Params) (keys list message cts work : List ℕ) 
     -- The exit of refusal 14.
     pub each-equal : {need : ℕ} {work' : List ℕ} → (equal ≡ 0 → ⊥) → need ≡ encryptWork P → work' ≡ workAfter set need work
         → EncryptEachExit set count keys list message cts work equal cts work'
-    each-equal bad n w =
-        let refused = coins-checked .refuses bad in
-        record {
-          returned = refused-number refused;
-          ciphertexts = refused-output (λ c. c) cts refused;
-          wiped = rw (n, are) at w;
-        }
+    each-equal bad n w = refusal (coins-checked .refuses bad) n w
 
     -- The exit of success; `left` is what the inner function leaves in the work area.
     pub each-exit : {need : ℕ} (left : List ℕ) {cts' work' : List ℕ} → equal ≡ 0 → cts' ≡ ciphertexts P count keys list message

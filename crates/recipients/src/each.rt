@@ -1,6 +1,5 @@
 // The call of encryption to several recipients: its checks, and a ciphertext for each.
 ghost use mathlib.Core.Path.{_≡_};
-ghost use mathlib.Core.Bool.{cond};
 ghost use Prim.Native.Nat.{_*_, _≤_};
 ghost use Rattle.kindi.specs.Params.{WellFormed};
 ghost use Rattle.kindi.specs.Answers.{isCount, ciphertexts};

@@ -13,8 +13,9 @@ use Rattle.kindi.specs.Params.{isSet, ofSet}
 use Rattle.kindi.specs.Keys.{publicPart}
 use Rattle.kindi.specs.Noise.{clear}
 use Rattle.kindi.specs.Answers.{answered, recoveredCoins, keyAt, coinsAt, ciphertextAt}
+use Rattle.kindi.specs.Recipients.{EachFits, TwoEqual}
 use Rattle.kindi.proofs.Sets.{of-set-well}
-use Rattle.kindi.proofs.Recipients.{EachFits, TwoEqual, each-part, each-own, each-below, each-equal-iff, clear-each-returns}
+use Rattle.kindi.proofs.Recipients.{each-part, each-own, each-below, each-equal-iff, clear-each-returns}
 use Rattle.scheme.specs.Leaves.{KeygenLeaves, EncryptLeaves, EncryptEachLeaves, DecryptLeaves, IsPair}
 use Rattle.scheme.proofs.Left as Left
 use Rattle.scheme.proofs.Demand3.{decrypt-call-iff}
