@@ -10,7 +10,8 @@ use lib.Dec.{lit<}
 use Rattle.kindi.specs.declared.Params.{Params}
 use Rattle.kindi.specs.Params.{isSet, ofSet, publicLength, secretLength, ciphertextLength, paddedLength, keygenWork, encryptWork, decryptWork, noiseWork}
 use Rattle.kindi.specs.Decrypt.{Ending, blank, marked, other}
-use Rattle.kindi.specs.Answers.{Answer, refused, answered, refuseIf, then, keygen, encrypt, encryptEach, encaps, recoveredCoins, plain, decrypt, decaps, noiseOf}
+use Rattle.kindi.specs.Answers.{Answer, refused, answered, refuseIf, then, recoveredCoins, plain}
+use Rattle.kindi.specs.Answers.{keygen, encrypt, encryptEach, encaps, decrypt, decaps, noiseOf}
 use Rattle.kindi.specs.Calls.{number, inSet, keygenCall, encryptCall, encryptEachCall, encapsCall, decryptCall, decapsCall, noiseCall}
 use Rattle.kindi.proofs.Chains.{never, passed}
 

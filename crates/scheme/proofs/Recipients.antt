@@ -34,7 +34,7 @@ module _ (set : ℕ) where
         Left.encrypt-some set (made .0) (each-part P (of-set-well set) count keys list message cts (made .1) i there)
 
     -- If the pair of recipient i is clear, whatever seeds its keys were made from and whoever the others are, it decrypts part i to
-    -- exactly these coins and this message.
+    -- exactly these coins and this message. So where each pair is clear, every recipient opens its own part to that message.
     pub each-call-returns : {μ γ z sk : List ℕ} {status : ℕ} {coins' message' : List ℕ} {len' : ℕ}
         → Below 256 list → Below 256 message
         → KeygenLeaves set μ γ z 0 (keyAt P keys i) sk → clear P μ γ (coinsAt P list i) message ≡ true
