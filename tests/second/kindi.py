@@ -1,7 +1,7 @@
 #!/usr/bin/env python3
 """The scheme of the second implementation: keys, encryption to one recipient and to several, decryption,
-shared keys, the noise and the choice among coins, written from the paper 01 and request No. 1 of 02 alone
-in plain integers and lists. SHAKE is hashlib's.
+shared keys, the noise and the choice among coins, written from the paper 01 and request No. 1 of 02 alone,
+but for the lengths of work areas, in plain integers and lists. SHAKE is hashlib's.
 
 A polynomial is a list of n integers, coefficient 0 first, which is taken modulo q only where the paper
 asks for it. `answer` and `call` give the whole answer of a C call: its status, the values that it
