@@ -1,5 +1,6 @@
 # make lib      the static library, target/staticlib/libscheme.a, proved and compiled by rt
-# make run      prove and run the test vectors, then the examples (TEXT='...' for the one of SHAKE)
+# make run      prove and build the library and the programs, and run the examples; the log is target/run.log
+# make examples compile the C examples
 # make test     the merge gate: every proof, every must-fail edit, every host test
 # make vectors  make the stored test vectors and known answers again
 # make bench    time the library beside portable C and, where it is installed, OpenSSL; measure its stack;
@@ -15,10 +16,11 @@ LIB = target/staticlib/libscheme.a
 # The ring's calls for the tests and the benchmark; no part of the library.
 RING = target/staticlib/libring_calls.a
 SOURCES := crates.txt $(shell find crates -name '*.rt' -o -name '*.antt')
-EXAMPLES = target/examples/shake target/examples/programme target/examples/shop
+EXAMPLES = $(patsubst examples/%.c,target/examples/%,$(wildcard examples/*.c))
 BENCHES = target/bench/shake target/bench/ring target/bench/scheme target/bench/stack
 BENCH_PARTS = bench/timing.c bench/timing.h bench/keccak_ref.c bench/keccak_ref.h \
-	bench/ring_ref.c bench/ring_ref.h bench/ring_calls.h bench/kindi_ref.c bench/kindi_ref.h bench/sets.h
+	bench/ring_ref.c bench/ring_ref.h bench/ring_calls.h bench/kindi_ref.c bench/kindi_ref.h bench/sets.h \
+	bench/stack_calls.h
 
 # A short loop that crosses a cache line takes up to twice its time; so the C is not timed by chance.
 BENCH_FLAGS = -falign-loops=64
@@ -27,7 +29,7 @@ BENCH_FLAGS = -falign-loops=64
 OPENSSL_PROBE = printf '\#include <openssl/evp.h>\nint main(void) { return !EVP_shake128(); }\n' \
 	| $(CC) -x c - -o target/bench/probe -lcrypto 2>/dev/null && echo -DBENCH_OPENSSL -lcrypto
 
-.PHONY: lib run test vectors bench clean
+.PHONY: lib run examples test vectors bench clean
 .DELETE_ON_ERROR:
 
 lib: $(LIB)
@@ -35,14 +37,12 @@ lib: $(LIB)
 target/staticlib/lib%.a: $(SOURCES)
 	$(RT) staticlib $*
 
-run: $(EXAMPLES)
-	$(RT) check shake_vectors ring_vectors linkcheck
-	target/examples/shake $${TEXT:+"$$TEXT"}
-	target/examples/programme
-	target/examples/shop
-	examples/linkcheck.py
+run:
+	@examples/run.py
 
-target/examples/%: examples/%.c examples/shown.h include/kindi.h $(LIB)
+examples: $(EXAMPLES)
+
+target/examples/%: examples/%.c $(wildcard examples/*.h) include/kindi.h $(LIB)
 	@mkdir -p $(@D)
 	$(CC) $(CFLAGS) $(CPPFLAGS) $< $(LIB) -o $@
 
@@ -63,7 +63,7 @@ bench: $(BENCHES) target/bench/calls
 target/bench/%: bench/%.c $(BENCH_PARTS) include/kindi.h $(LIB) $(RING)
 	@mkdir -p $(@D)
 	openssl=$$($(OPENSSL_PROBE)); \
-	$(CC) $(CFLAGS) $(BENCH_FLAGS) $(CPPFLAGS) -pthread $< $(filter %.c,$(BENCH_PARTS)) $(LIB) $(RING) $$openssl -lm -o $@
+	$(CC) $(CFLAGS) $(BENCH_FLAGS) $(CPPFLAGS) $< $(filter %.c,$(BENCH_PARTS)) $(LIB) $(RING) $$openssl -lm -o $@
 
 clean:
 	rm -rf target

@@ -1,6 +1,6 @@
 /*
  * sets.h: the lengths in bytes that the library's calls take in each parameter set, for the programs of the
- * benchmark; those of work areas are in kindi.h.
+ * benchmark and the tests of the stack; those of work areas are in kindi.h.
  */
 #ifndef SETS_H
 #define SETS_H

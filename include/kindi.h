@@ -2,7 +2,15 @@
  * kindi.h: the C interface of the KINDI library.
  *
  * KINDI is a post-quantum encryption scheme. This header declares every call that the static library
- * exports.
+ * exports. It is for whoever links the library; README.md says how to choose a parameter set, and what is
+ * proved and what is not.
+ *
+ * The library is code for x86-64 with SSE2, by the System V calling convention, which wants a stack that is
+ * aligned to 16 bytes at a call. There is none for another processor today, since the compiler of the proved
+ * language makes none; the proofs speak of the source with a size_t of 64 bits. It needs memcpy and memset and
+ * nothing else of a C library, is position independent (shared objects, static-pie), has a section for each
+ * function (--gc-sections: a program that calls kindi_keygen alone takes about 20 KB of code), allocates nothing
+ * and has no data that is written.
  *
  * What holds for each call:
  *
@@ -13,7 +21,7 @@
  *   - A byte slice is passed as two arguments: a pointer to its first byte, then its length in bytes.
  *     The pointer may be NULL where the length is 0; otherwise that many bytes are there to read, and
  *     to write where the slice is an output or the work area.
- *   - The buffers of one call do not overlap, inputs included.
+ *   - No two buffers of one call overlap, not even two inputs.
  *   - A call writes its output slices, its work area and the values that it returns through pointers, and
  *     nothing else of the caller's. Such a pointer is not NULL.
  */
@@ -25,6 +33,23 @@
 
 #ifdef __cplusplus
 extern "C" {
+#endif
+
+/* The version: each of the makers' change requests raises the minor number (docs/changes/). */
+#define KINDI_VERSION_MAJOR 0
+#define KINDI_VERSION_MINOR 2
+#define KINDI_VERSION_PATCH 0
+
+/* A status that is not looked at is a warning, where the compiler can give one: the outputs of a refused call
+ * are what they were before. */
+#if defined(__cplusplus) && __cplusplus >= 201703L
+#define KINDI_CHECK_STATUS [[nodiscard]]
+#elif defined(__STDC_VERSION__) && __STDC_VERSION__ >= 202311L
+#define KINDI_CHECK_STATUS [[nodiscard]]
+#elif defined(__GNUC__)
+#define KINDI_CHECK_STATUS __attribute__((warn_unused_result))
+#else
+#define KINDI_CHECK_STATUS
 #endif
 
 /*
@@ -49,7 +74,7 @@ void kindi_shake256(const uint8_t *input, size_t input_len, uint8_t *output, siz
  *   3     512-2-4-1   2^14   SHAKE256
  *   4     512-3-2-1   2^13   SHAKE256
  *
- * The lengths below are in bytes. Each macro takes the number of a set, which it may evaluate more than
+ * Lengths are in bytes. Each macro takes the number of a set, which it may evaluate more than
  * once, and gives 0 for a number that is no set. With a constant set it is a constant, fit for the size
  * of an array and for #if; with a variable it is computed where it stands.
  */
@@ -69,7 +94,8 @@ void kindi_shake256(const uint8_t *input, size_t input_len, uint8_t *output, siz
 /* A shared key. */
 #define KINDI_KEY_LEN(set) KINDI_BY_SET(set, 32u, 64u, 64u, 64u)
 
-/* The longest message that one ciphertext holds; the shortest is empty. A decrypted message has this room. */
+/* The longest message that one ciphertext holds; the shortest is empty. The message output of kindi_decrypt has
+ * exactly this length. */
 #define KINDI_MESSAGE_MAX_LEN(set) KINDI_BY_SET(set, 383u, 383u, 575u, 511u)
 
 /* The least work area of each call. */
@@ -88,8 +114,11 @@ void kindi_shake256(const uint8_t *input, size_t input_len, uint8_t *output, siz
 /* The most coins that kindi_choose takes. */
 #define KINDI_CHOOSE_MAX_COINS 8u
 
+/* The most bytes of stack that a call takes, its arguments and its return address included. */
+#define KINDI_STACK_LEN 24432u
+
 /*
- * What the calls below return: 0 for success, otherwise the number of a refusal. A call makes its checks
+ * What the calls of the scheme return: 0 for success, otherwise the number of a refusal. A call makes its checks
  * in the order in which they are listed here, which is not that of their numbers: 1, 13, 2, 3, 4, 14, 5, 6,
  * 7, 8, 9. Where several things are wrong, the first of the list that applies to the call is returned.
  *
@@ -98,12 +127,19 @@ void kindi_shake256(const uint8_t *input, size_t input_len, uint8_t *output, siz
  * is long enough for the call is all zeros to its very end after every call, refused or not, so no secret
  * stays in it; only KINDI_NO_SUCH_SET leaves it as it was. One that is too short is left as it was.
  * Nothing is allocated.
+ *
+ * The stack is not cleared, and secrets stay there. After kindi_encaps and kindi_decaps the whole shared key lies
+ * in what the call took of it, and after kindi_decrypt and kindi_decaps all of the coins, also where kindi_decaps
+ * refuses with KINDI_WRONG_DIGEST. After the other calls of the scheme values lie there from which secrets
+ * follow: the key's secret vector after kindi_keygen, kindi_noise and kindi_choose, and one that gives the coins
+ * after kindi_encrypt and kindi_encrypt_each. A caller who shares the stack with code that is not trusted clears
+ * KINDI_STACK_LEN bytes of it after each call, refused or not, as examples/clear_stack.h does.
  */
 enum kindi_status {
     KINDI_OK = 0,
     KINDI_NO_SUCH_SET = 1,      /* the set's number is not 1 to 4 */
     KINDI_WRONG_COUNT = 13,     /* the number of recipients is 0 or over KINDI_MAX_RECIPIENTS */
-    KINDI_WRONG_INPUT_LEN = 2,  /* a seed, coins, a key or a ciphertext has not the length of its set */
+    KINDI_WRONG_INPUT_LEN = 2,  /* a seed, coins, a key, a ciphertext or a list of them has the wrong length */
     KINDI_MESSAGE_TOO_LONG = 3, /* a message has more than KINDI_MESSAGE_MAX_LEN bytes */
     KINDI_WRONG_OUTPUT_LEN = 4, /* an output has not its exact length, or the work area is too short */
     KINDI_EQUAL_COINS = 14,     /* two recipients have the same coins */
@@ -129,7 +165,7 @@ enum kindi_status {
  *
  * Returns KINDI_OK, KINDI_NO_SUCH_SET, KINDI_WRONG_INPUT_LEN or KINDI_WRONG_OUTPUT_LEN.
  */
-uint32_t kindi_keygen(uint32_t set, const uint8_t *mu, size_t mu_len, const uint8_t *gamma,
+KINDI_CHECK_STATUS uint32_t kindi_keygen(uint32_t set, const uint8_t *mu, size_t mu_len, const uint8_t *gamma,
     size_t gamma_len, const uint8_t *z, size_t z_len, uint8_t *public_key, size_t public_key_len,
     uint8_t *secret_key, size_t secret_key_len, uint8_t *work, size_t work_len);
 
@@ -151,7 +187,7 @@ uint32_t kindi_keygen(uint32_t set, const uint8_t *mu, size_t mu_len, const uint
  * Returns KINDI_OK, KINDI_NO_SUCH_SET, KINDI_WRONG_INPUT_LEN, KINDI_MESSAGE_TOO_LONG or
  * KINDI_WRONG_OUTPUT_LEN.
  */
-uint32_t kindi_encrypt(uint32_t set, const uint8_t *public_key, size_t public_key_len,
+KINDI_CHECK_STATUS uint32_t kindi_encrypt(uint32_t set, const uint8_t *public_key, size_t public_key_len,
     const uint8_t *coins, size_t coins_len, const uint8_t *message, size_t message_len,
     uint8_t *ciphertext, size_t ciphertext_len, uint8_t *work, size_t work_len);
 
@@ -174,19 +210,25 @@ uint32_t kindi_encrypt(uint32_t set, const uint8_t *public_key, size_t public_ke
  * Returns KINDI_OK, KINDI_NO_SUCH_SET, KINDI_WRONG_COUNT, KINDI_WRONG_INPUT_LEN, KINDI_MESSAGE_TOO_LONG,
  * KINDI_WRONG_OUTPUT_LEN or KINDI_EQUAL_COINS.
  */
-uint32_t kindi_encrypt_each(uint32_t set, uint32_t count, const uint8_t *public_keys, size_t public_keys_len,
-    const uint8_t *coins_list, size_t coins_list_len, const uint8_t *message, size_t message_len,
-    uint8_t *ciphertexts, size_t ciphertexts_len, uint8_t *work, size_t work_len);
+KINDI_CHECK_STATUS uint32_t kindi_encrypt_each(uint32_t set, uint32_t count, const uint8_t *public_keys,
+    size_t public_keys_len, const uint8_t *coins_list, size_t coins_list_len, const uint8_t *message,
+    size_t message_len, uint8_t *ciphertexts, size_t ciphertexts_len, uint8_t *work, size_t work_len);
 
 /*
  * Decrypts a message.
  *
  * The answer is coins and a message only where encrypting this message with these coins to the public
  * key in the secret key gives this very ciphertext. What was encrypted comes back where it is clear (see
- * kindi_noise) and the key pair is one of kindi_keygen. A ciphertext that was altered on its way is mostly
- * refused, but an alteration that keeps its errors small gives another message: where that matters,
- * share a key by kindi_encaps and authenticate the message with it. Whoever sends ciphertexts should not
- * learn which refusal they met.
+ * kindi_noise) and the key pair is one of kindi_keygen.
+ *
+ * A ciphertext that was altered on its way may decrypt to another message with the same coins. Of all
+ * single-bit alterations of one ciphertext, of a message of 300 bytes, 1,757 of 14,336 did in set 1, 1,582 of
+ * 19,968 in set 2, 1,906 of 21,504 in set 3 and 1,593 of 26,624 in set 4: one in 8, 13, 11 and 17; of the
+ * longest message one in 7, 10, 7 and 10. So carry a tag in the message, as examples/tagged.c does, or share a
+ * key by kindi_encaps, of whose ciphertexts none so altered was taken, and authenticate the message with it.
+ *
+ * Whoever sends ciphertexts must not learn which refusal they met, nor, without a tag, whether an altered one
+ * was taken: from some thousands of altered copies and such answers they can work out the coins and the message.
  *
  *   secret_key    KINDI_SECRET_KEY_LEN bytes
  *   ciphertext    KINDI_CIPHERTEXT_LEN bytes
@@ -198,7 +240,7 @@ uint32_t kindi_encrypt_each(uint32_t set, uint32_t count, const uint8_t *public_
  * Returns KINDI_OK, KINDI_NO_SUCH_SET, KINDI_WRONG_INPUT_LEN, KINDI_WRONG_OUTPUT_LEN,
  * KINDI_ERROR_TOO_LARGE or KINDI_WRONG_PADDING.
  */
-uint32_t kindi_decrypt(uint32_t set, const uint8_t *secret_key, size_t secret_key_len,
+KINDI_CHECK_STATUS uint32_t kindi_decrypt(uint32_t set, const uint8_t *secret_key, size_t secret_key_len,
     const uint8_t *ciphertext, size_t ciphertext_len, uint8_t *coins, size_t coins_len, uint8_t *message,
     size_t message_room, size_t *message_len, uint8_t *work, size_t work_len);
 
@@ -217,7 +259,7 @@ uint32_t kindi_decrypt(uint32_t set, const uint8_t *secret_key, size_t secret_ke
  *
  * Returns KINDI_OK, KINDI_NO_SUCH_SET, KINDI_WRONG_INPUT_LEN or KINDI_WRONG_OUTPUT_LEN.
  */
-uint32_t kindi_encaps(uint32_t set, const uint8_t *public_key, size_t public_key_len,
+KINDI_CHECK_STATUS uint32_t kindi_encaps(uint32_t set, const uint8_t *public_key, size_t public_key_len,
     const uint8_t *coins, size_t coins_len, uint8_t *key, size_t key_len, uint8_t *ciphertext,
     size_t ciphertext_len, uint8_t *work, size_t work_len);
 
@@ -226,8 +268,9 @@ uint32_t kindi_encaps(uint32_t set, const uint8_t *public_key, size_t public_key
  *
  * The answer is a key only where kindi_encaps of the ciphertext's coins to the public key in the secret
  * key gives this key and this very ciphertext. So a ciphertext that was altered is refused, unless it is
- * another that kindi_encaps makes, and so is one of kindi_encrypt. Whoever sends ciphertexts should not
- * learn which refusal they met.
+ * another that kindi_encaps makes, and so is one of kindi_encrypt. Whoever sends ciphertexts must not learn
+ * which refusal they met: from some thousands of altered copies, and of each whether it was refused with
+ * KINDI_ERROR_TOO_LARGE, they can work out the coins and the shared key.
  *
  *   secret_key   KINDI_SECRET_KEY_LEN bytes
  *   ciphertext   KINDI_CIPHERTEXT_LEN bytes
@@ -237,13 +280,13 @@ uint32_t kindi_encaps(uint32_t set, const uint8_t *public_key, size_t public_key
  * Returns KINDI_OK, KINDI_NO_SUCH_SET, KINDI_WRONG_INPUT_LEN, KINDI_WRONG_OUTPUT_LEN,
  * KINDI_ERROR_TOO_LARGE or KINDI_WRONG_DIGEST.
  */
-uint32_t kindi_decaps(uint32_t set, const uint8_t *secret_key, size_t secret_key_len,
+KINDI_CHECK_STATUS uint32_t kindi_decaps(uint32_t set, const uint8_t *secret_key, size_t secret_key_len,
     const uint8_t *ciphertext, size_t ciphertext_len, uint8_t *key, size_t key_len, uint8_t *work,
     size_t work_len);
 
 /*
- * Measures the noise of an encryption to one's own key pair: what is added to the coins on their way,
- * and has to be small for them to come back.
+ * Measures the noise of an encryption to one's own key pair: by how much the value that decryption rounds is
+ * off from the one that stands for the coins. It has to be small for them to come back.
  *
  * The coins and the message are clear where every coefficient of the noise is strictly between -q/4 and
  * q/4. What is clear comes back when its ciphertext is decrypted, and no two clear pairs share a
@@ -259,12 +302,13 @@ uint32_t kindi_decaps(uint32_t set, const uint8_t *secret_key, size_t secret_key
  * Returns KINDI_OK, KINDI_NO_SUCH_SET, KINDI_WRONG_INPUT_LEN, KINDI_MESSAGE_TOO_LONG,
  * KINDI_WRONG_OUTPUT_LEN or KINDI_WRONG_PUBLIC_KEY.
  */
-uint32_t kindi_noise(uint32_t set, const uint8_t *secret_key, size_t secret_key_len,
+KINDI_CHECK_STATUS uint32_t kindi_noise(uint32_t set, const uint8_t *secret_key, size_t secret_key_len,
     const uint8_t *coins, size_t coins_len, const uint8_t *message, size_t message_len, uint32_t *clear,
     uint32_t *largest, uint8_t *work, size_t work_len);
 
 /*
- * Chooses coins that are clear with a message, for an encryption to one's own key pair.
+ * Chooses coins that are clear with a message, for an encryption to one's own key pair. All of the list are
+ * drawn as for kindi_encrypt.
  *
  *   secret_key   KINDI_SECRET_KEY_LEN bytes, of kindi_keygen
  *   message      0 to KINDI_MESSAGE_MAX_LEN bytes
@@ -277,7 +321,7 @@ uint32_t kindi_noise(uint32_t set, const uint8_t *secret_key, size_t secret_key_
  * Returns KINDI_OK, KINDI_NO_SUCH_SET, KINDI_WRONG_INPUT_LEN, KINDI_MESSAGE_TOO_LONG,
  * KINDI_WRONG_OUTPUT_LEN, KINDI_WRONG_PUBLIC_KEY or KINDI_NONE_CLEAR.
  */
-uint32_t kindi_choose(uint32_t set, const uint8_t *secret_key, size_t secret_key_len,
+KINDI_CHECK_STATUS uint32_t kindi_choose(uint32_t set, const uint8_t *secret_key, size_t secret_key_len,
     const uint8_t *message, size_t message_len, const uint8_t *coins_list, size_t coins_list_len,
     uint32_t *place, uint8_t *work, size_t work_len);
 

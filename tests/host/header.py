@@ -1,8 +1,11 @@
 #!/usr/bin/env python3
-"""The header compiles alone, as C99 and as C++17, with every warning an error; each length that it has is the
-second implementation's, in a constant and at run time; and its refusals are the paper's, in the order of the
-checks."""
+"""The header compiles alone, as C99, later C and C++, with every warning an error; a status that is not looked at is
+a warning, and a compiler without an attribute for that takes the header too; each length that it has is the second
+implementation's, in a constant and at run time; and its refusals are the paper's, in the order of the checks."""
 
+import re
+import shutil
+import subprocess
 import sys
 
 from support import BUILD, HEADER, INCLUDE, ROOT, WARNINGS, check, defined_lengths, defined_statuses, main, run
@@ -12,6 +15,10 @@ sys.path.insert(0, str(ROOT / "tests"))
 from second import kindi  # noqa: E402
 
 LANGUAGES = [("c", ["gcc", "-std=c99"]), ("c++", ["g++", "-std=c++17"])]
+
+# The languages in which a status that is not looked at warns; clang where it is installed.
+STANDARDS = {"gcc": ["c99", "c11", "c17", "c2x"], "g++": ["c++11", "c++14", "c++17", "c++20"]}
+CLANG = {"gcc": "clang", "g++": "clang++"}
 
 # No set, the sets, no set.
 NUMBERS = range(6)
@@ -39,6 +46,42 @@ LIMITS = {"KINDI_MAX_RECIPIENTS": kindi.MOST_RECIPIENTS, "KINDI_CHOOSE_MAX_COINS
 
 def length(name, number):
     return LENGTHS[name](kindi.SETS[number]) if number in kindi.SETS else 0
+
+
+def calls_with_status():
+    """Each call of the header that has a status, as an expression, with 0 for every argument."""
+    text = re.sub(r"\s+", " ", run(["gcc", "-std=c99", "-E", "-P", "-x", "c", HEADER]))
+    found = re.findall(r"uint32_t (kindi_\w+)\(([^)]*)\)", text)
+    return [f"{name}({', '.join('0' for _ in arguments.split(','))})" for name, arguments in found]
+
+
+def warnings(source, *words):
+    """How many times a compiler says that a result is not used, and all that it says."""
+    done = subprocess.run([*map(str, words), "-I", INCLUDE, "-S", "-o", "/dev/null", source], capture_output=True, text=True)
+    check(done.returncode == 0, f"{' '.join(map(str, words))}: {done.stderr}")
+    return done.stderr.count("[-Wunused-result]"), done.stderr
+
+
+def check_statuses():
+    """A status that is lost is a warning for each call that has one, and none where it is looked at or the compiler
+    names no attribute; how many compilers and languages were tried."""
+    calls, tried = calls_with_status(), 0
+    check(len(calls) == len(kindi.CALLS), f"the header has {len(calls)} calls with a status")
+    lost, looked_at = BUILD / "lost.c", BUILD / "looked_at.c"
+    lost.write_text('#include "kindi.h"\nvoid f(void);\nvoid f(void) {' + "".join(f" {call};" for call in calls) + " }\n")
+    looked_at.write_text('#include "kindi.h"\nuint32_t f(void);\nuint32_t f(void) { return ' + " | ".join(calls) + "; }\n")
+    for gnu, standards in STANDARDS.items():
+        for compiler in filter(shutil.which, (gnu, CLANG[gnu])):
+            for standard in standards:
+                words = [compiler, f"-std={standard}", *WARNINGS[:-1], "-x", "c++" if gnu == "g++" else "c"]
+                found, said = warnings(lost, *words)
+                check(found == len(calls), f"{compiler}, {standard}: {found} of {len(calls)} lost statuses warn: {said}")
+                found, said = warnings(looked_at, *words)
+                check(not said, f"{compiler}, {standard}: {said}")
+                tried += 1
+    found, said = warnings(lost, "gcc", "-std=c99", *WARNINGS[:-1], "-U__GNUC__")
+    check(not said, f"without the attribute: {said}")
+    return tried
 
 
 def program():
@@ -80,7 +123,9 @@ def test():
         found = run([out]).splitlines()
         wrong = [f"{line}, expected {right}" for line, right in zip(found, expected, strict=True) if line != right]
         check(not wrong, f"{language}: {'; '.join(wrong)}")
-    return f"the header compiles alone as C99 and as C++17; its {len(LENGTHS)} lengths are right in each set"
+    tried = check_statuses()
+    return (f"the header compiles alone as C99 and as C++17; its {len(LENGTHS)} lengths are right in each set; "
+            f"a lost status warns in {tried} compilers and languages")
 
 
 main(test)

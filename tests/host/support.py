@@ -13,7 +13,7 @@ from pathlib import Path
 ROOT = Path(__file__).resolve().parents[2]
 INCLUDE = ROOT / "include"
 HEADER = INCLUDE / "kindi.h"
-# Where ring_calls.h is, the header of the ring's calls for tests.
+# Where ring_calls.h is, the header of the ring's calls for tests, and stack_calls.h, the calls on a filled stack.
 BENCH = ROOT / "bench"
 BUILD = ROOT / "target" / "host"
 

@@ -1,8 +1,8 @@
 #!/usr/bin/env python3
-"""The tables of docs/WORK-AREAS.md and README.md have the header's numbers, as the compiler reads it: each length
-in each set, and each refusal, in the header's order, which is also the order of the checks that README.md and the
-header's comment tell. docs/WORK-AREAS.md leaves no length and no call of the header out, README.md no length but
-those of work areas; and no work area is over 01's limit."""
+"""The tables of the documents have the header's numbers, as the compiler reads it: README.md each length but those
+of work areas, docs/WORK-AREAS.md these, of every call, and docs/SCHEME.md those of keys, ciphertexts and padded
+messages; README.md and docs/SCHEME.md each refusal, in the header's order, which is also the order of the checks
+that they and the header's comment tell. No work area is over 01's limit."""
 
 import re
 
@@ -14,11 +14,17 @@ MOST_WORK = 65536
 
 WORK_AREAS = "docs/WORK-AREAS.md"
 README = "README.md"
+SCHEME = "docs/SCHEME.md"
 
 # The first lines of the tables.
 OF_WORK = "| call | set 1 | set 2 | set 3 | set 4 | what lies in it |"
 OF_LENGTHS = "| | set 1 | set 2 | set 3 | set 4 |"
-OF_REFUSALS = "| number | when |"
+OF_REFUSALS = {README: "| number | when |", SCHEME: "| number | the check fails where | made by |"}
+
+# The table of docs/SCHEME.md has a row for each set; what its columns are.
+OF_SETS = ("| set | public key: ℓ polynomials at k − t bits, and a seed | secret key: public key and two seeds "
+           "| ciphertext: ℓ + 1 polynomials at k bits | padded message: ℓ + 1 polynomials at v bits |")
+COLUMNS = ["KINDI_PUBLIC_KEY_LEN", "KINDI_SECRET_KEY_LEN", "KINDI_CIPHERTEXT_LEN", "KINDI_MESSAGE_MAX_LEN"]
 
 
 def work_of(call):
@@ -39,15 +45,13 @@ ROWS = {
     "public key": ["KINDI_PUBLIC_KEY_LEN"],
     "secret key": ["KINDI_SECRET_KEY_LEN"],
     "ciphertext": ["KINDI_CIPHERTEXT_LEN"],
-    "longest message": ["KINDI_MESSAGE_MAX_LEN"],
     "longest message, message output of `kindi_decrypt`": ["KINDI_MESSAGE_MAX_LEN"],
-    "work area of encrypt, encrypt_each, decrypt, encaps, decaps":
-        list(map(work_of, ("encrypt", "encrypt_each", "decrypt", "encaps", "decaps"))),
     **{name: [name] for name in LISTS},
 }
 
 # What stands before the order of the checks, in the texts that tell it.
-ORDERS = {ROOT / README: "in this order: ", HEADER: "which is not that of their numbers: "}
+ORDERS = {ROOT / README: "in this order: ", ROOT / SCHEME: "the first that fails gives the number: ",
+          HEADER: "which is not that of their numbers: "}
 
 
 def values(asked):
@@ -107,18 +111,26 @@ def check_lengths(document, cells):
     return covered
 
 
+def check_sets(lengths):
+    """Holds the table of docs/SCHEME.md to the header; a padded message has a byte more than the longest one."""
+    for row, number in zip(table(SCHEME, OF_SETS), SETS, strict=True):
+        expected = [lengths[name][number - 1] + (name == "KINDI_MESSAGE_MAX_LEN") for name in COLUMNS]
+        check(list(map(int, row)) == [number, *expected], f"{SCHEME}, set {number}: {', '.join(row)}; not {expected}")
+
+
 def check_refusals():
-    """Holds the README's table and the order of the checks to the header; how many refusals there are."""
+    """Holds the tables of refusals and the order of the checks to the header; how many refusals there are."""
     numbers = [str(number) for name, number in defined_statuses() if name != "KINDI_OK"]
-    # The refusals of linkcheck alone are none of the header.
-    listed = [row[0] for row in table(README, OF_REFUSALS) if not row[1].startswith("`linkcheck`")]
     order = ", ".join(numbers)
-    check(listed == numbers, f"{README} has the refusals {', '.join(listed)}; the header {order}")
+    for document, first in OF_REFUSALS.items():
+        # The refusals of linkcheck alone are none of the header.
+        listed = [row[0] for row in table(document, first) if not row[1].startswith("`linkcheck`")]
+        check(listed == numbers, f"{document} has the refusals {', '.join(listed)}; the header {order}")
     for path, before in ORDERS.items():
         text = re.sub(r"\s+(\* )?", " ", path.read_text())
         told = re.findall(rf"{before}(\d+(?:, \d+)*)", text)
         check(told == [order], f"{path.name} has to say '{before}{order}' once: {told}")
-    return len(listed)
+    return len(numbers)
 
 
 def test():
@@ -128,10 +140,11 @@ def test():
     cells = {name: [str(length) for length in row] for name, row in lengths.items()}
     for row, (item, most) in LISTS.items():
         cells[row] = [f"{one} to {found[most] * one} by {one}" for one in lengths[item]]
-    missing = cells.keys() - check_work(cells) - check_lengths(WORK_AREAS, cells)
-    check(not missing, f"{WORK_AREAS} has no row of {', '.join(sorted(missing))}")
-    missing = {name for name in lengths if not name.endswith("_WORK_LEN")} - check_lengths(README, cells)
-    check(not missing, f"{README} has no row of {', '.join(sorted(missing))}")
+    for document, wanted in (WORK_AREAS, True), (README, False):
+        covered = check_work(cells) if wanted else check_lengths(document, cells)
+        missing = {name for name in cells if name.endswith("_WORK_LEN") == wanted} - covered
+        check(not missing, f"{document} has no row of {', '.join(sorted(missing))}")
+    check_sets(lengths)
     for name, row in lengths.items():
         check(not name.endswith("_WORK_LEN") or max(row) <= MOST_WORK, f"{name} is over {MOST_WORK}")
     return f"the tables have the header's {len(lengths)} lengths in each set and its {check_refusals()} refusals"

@@ -1,10 +1,11 @@
 -- The calls of the C interface by set number, and what is read off an answer: the returned number, a buffer at exit, the work
 -- area at exit. Rests on Answers.
-use mathlib.Core.Bool.{Bool, cond, not, _&&_}
+use mathlib.Core.Path.{_≡_}
+use mathlib.Core.Bool.{Bool, true, false, cond, not, _&&_}
 use mathlib.Core.List.{List, _++_}
 use Prim.Native.Nat.{ℕ, _-_, _*_}
 use lib.Dec.{eqb, leb}
-use lib.ListN.{length, replicate}
+use lib.ListN.{length, replicate, getD}
 use Rattle.kindi.specs.declared.Params.{Params}
 use Rattle.kindi.specs.Params.{isSet, ofSet, publicLength, secretLength, ciphertextLength, paddedLength, keygenWork, encryptWork, decryptWork, noiseWork}
 use Rattle.kindi.specs.Answers.{Answer, refused, answered, refuseIf, Keys, Shared, Plain, Size, keygen, encrypt, encryptEach, encaps, decrypt, decaps, noiseOf, choose}
@@ -75,3 +76,8 @@ chooseCall set sk message list workRoom = inSet set (λ P. choose P (leb (noiseW
 unfoldable pub returned : {A : Type 0} → Answer A → (A → ℕ) → ℕ
 returned (refused n) value = 0
 returned (answered a) value = value a
+
+-- A returned place: 0 after a refusal, else that of some clear coins, whichever (01 leaves it free).
+unfoldable pub Place : Answer (List Bool) → ℕ → Type 0
+Place (refused n) place = place ≡ 0
+Place (answered places) place = getD places place false ≡ true

@@ -8,9 +8,10 @@ use borrow.Author.Tests.{not-false}
 use lib.ListN.{length}
 use Rattle.kindi.specs.declared.Params.{Params}
 use Rattle.kindi.specs.Answers.{Answer, refused, answered, refuseIf, agrees, clearUnder, largestUnder, clearPlaces, some, Size}
+use Rattle.kindi.specs.Calls.{Place}
 use Rattle.calls.proofs.Checked.{Checked, unchecked, check-first, zero-check, refused-number, answered-number, refused-returned, given-returned}
 use Rattle.noise.specs.Rooms.{MeasureRoom, valueOf, Kept}
-use Rattle.noise_calls.specs.Fitting.{noiseFitting, chooseFitting, Place, NoiseRoom, SizeExit, ChooseRoom, PlaceExit, SearchRoom, Search}
+use Rattle.noise_calls.specs.Fitting.{noiseFitting, chooseFitting, NoiseRoom, SizeExit, ChooseRoom, PlaceExit, SearchRoom, Search}
 
 -- ---- noise
 

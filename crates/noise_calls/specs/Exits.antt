@@ -7,8 +7,7 @@ use mathlib.Core.List.{List}
 use Prim.Native.Nat.{ℕ}
 use lib.ListN.{length}
 use Rattle.kindi.specs.Params.{ofSet, noiseWork}
-use Rattle.kindi.specs.Calls.{number, returned, workAfter, noiseCall, chooseCall}
-use Rattle.noise_calls.specs.Fitting.{Place}
+use Rattle.kindi.specs.Calls.{number, returned, Place, workAfter, noiseCall, chooseCall}
 
 -- noise.
 pub record NoiseExit (set : ℕ) (sk coins message work : List ℕ) (status clear' largest' : ℕ) (work' : List ℕ) : Type 0 where

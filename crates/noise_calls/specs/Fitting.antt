@@ -7,8 +7,8 @@ use Prim.Native.Nat.{ℕ, _<_, _≤_}
 use lib.ListN.{length, getD}
 use Rattle.kindi.specs.declared.Params.{Params}
 use Rattle.kindi.specs.Params.{WellFormed, secretLength, paddedLength, noiseWork}
-use Rattle.kindi.specs.Answers.{Answer, refused, answered, refuseIf, agrees, clearUnder, largestUnder, clearPlaces, some, Size}
-use Rattle.kindi.specs.Calls.{number, returned}
+use Rattle.kindi.specs.Answers.{Answer, answered, refuseIf, agrees, clearUnder, largestUnder, clearPlaces, some, Size}
+use Rattle.kindi.specs.Calls.{number, returned, Place}
 use Rattle.noise.specs.Rooms.{ValueRoom, valueOf, Kept}
 use Rattle.noise_calls.specs.Status.{wholeCoins}
 
@@ -24,11 +24,6 @@ chooseFitting P sk message list =
     refuseIf (not (agrees P sk)) 8
     (refuseIf (not (some (clearPlaces P sk message list))) 9
     (answered (clearPlaces P sk message list)))
-
--- A returned place: 0 after a refusal, else that of some clear coins, whichever (01 leaves it free).
-unfoldable pub Place : Answer (List Bool) → ℕ → Type 0
-Place (refused n) place = place ≡ 0
-Place (answered places) place = getD places place false ≡ true
 
 -- The arguments of the noise, and room for b.
 pub record NoiseRoom (P : Params) (sk coins message b work : List ℕ) : Type 0 where

@@ -1,0 +1,173 @@
+#!/usr/bin/env python3
+"""What the documents say of the tree: each page says first whom it is for; links, paths and names in backticks are
+there; docs/CERTIFY.md has every file that has to be believed, with its lines, and wrong programs that there are;
+the version is that of docs/changes/; README.md names every example.
+
+usage: documents.py    say every thing that is wrong, and exit 1 where there is one
+"""
+
+import re
+import sys
+from pathlib import Path
+
+ROOT = Path(__file__).resolve().parents[1]
+CRATES = ROOT / "crates"
+CERTIFY = "docs/CERTIFY.md"
+
+# What speaks of the tree as it is now; the others have histories too.
+PRESENT = ["README.md", CERTIFY, "docs/SCHEME.md", "docs/PROMISES.md", "docs/WORK-AREAS.md"]
+
+# Where a name of a document may stand.
+SOURCES = ["crates/*/src/**/*.rt", "crates/*/specs/**/*.antt", "crates/*/proofs/**/*.antt", "include/*.h", "tests/**/*.py",
+           "tests/**/*.c", "tests/run", "examples/*", "bench/*", "Makefile", "crates.txt"]
+
+# Names in backticks that stand for something outside the tree.
+OUTSIDE = {"rt", "read", "write", "usize", "end", "requires", "ensures", "make", "gcc", "valgrind", "strace", "now"}
+
+# Where reading begins: the contracts of the library, the theorems on what its calls leave, the table of lengths,
+# and what the program prints.
+BEGINNINGS = ["scheme/src/lib.rt", "scheme/proofs/Demand3.antt", "scheme/proofs/Recipients.antt",
+              "kindi/specs/Lengths.antt", "records/specs/Transcript.antt"]
+
+
+def text_of(name):
+    return (ROOT / name).read_text()
+
+
+def check_readers():
+    for path in [ROOT / "README.md", *sorted((ROOT / "docs").glob("*.md"))]:
+        lines = path.read_text().splitlines()
+        if len(lines) < 3 or not re.match(r"# \S", lines[0]) or not lines[2].startswith("For "):
+            yield f"{path.name}: the line below its title does not say whom it is for"
+
+
+def check_links():
+    for path in [ROOT / "README.md", *sorted((ROOT / "docs").rglob("*.md"))]:
+        for link in re.findall(r"\]\(([^)#]+)(?:#[^)]*)?\)", path.read_text()):
+            if not link.startswith("http") and not (path.parent / link).exists():
+                yield f"{path.name} has a link to {link}, which is not there"
+
+
+def expanded(word):
+    """A path with its braces written out: a/{b,c}.d is a/b.d and a/c.d."""
+    found = re.fullmatch(r"(.*)\{([^}]*)\}(.*)", word)
+    return [f"{found[1]}{one}{found[3]}" for one in found[2].split(",")] if found else [word]
+
+
+def check_names():
+    """Each path in backticks is there, from the root or from crates/; so is each name."""
+    words = set()
+    for pattern in SOURCES:
+        for path in ROOT.glob(pattern):
+            if path.is_file():
+                words |= set(re.findall(r"[^\s(){}\[\];,.:`\"']+", path.read_text(errors="replace")))
+    words |= {path.stem for path in CRATES.glob("*/must-fail/*.edit")} | {path.name for path in CRATES.iterdir()}
+    files = {path.name for pattern in SOURCES for path in ROOT.glob(pattern)} | {path.name for path in ROOT.glob("docs/*")}
+    for document in PRESENT:
+        for quoted in re.findall(r"(?<!`)`([^`\n]+)`(?!`)", text_of(document)):
+            for word in expanded(quoted):
+                if re.fullmatch(r"[\w.-]+(?:/[\w.+-]+)+/?", word):
+                    there = [base / end for base in (ROOT, CRATES, CRATES / "kindi/specs")
+                             for end in (word, f"{word}.edit")]
+                    if not word.startswith("target/") and not any(path.exists() for path in there):
+                        yield f"{document}: there is no {word}"
+                elif re.fullmatch(r"\w+\.(?:antt|rt|py|c|h|md|edit)", word):
+                    if word not in files and word != "NAME.edit":
+                        yield f"{document}: there is no file {word}"
+                elif re.fullmatch(r"[0-9a-f]{16}", word):
+                    pass
+                elif re.fullmatch(r"[^\W\d][\w'-]*[\w']", word) and word not in words | OUTSIDE:
+                    yield f"{document}: {word} stands nowhere in the sources"
+
+
+def cited(path):
+    """The files of specs/ that a file rests on, by its `use` lines."""
+    found = set()
+    for crate, name in re.findall(r"^(?:ghost )?use Rattle·(\w+?)(?:·specs)?\.specs\.(\w+)\.", path.read_text(), re.M):
+        if name != "declared":
+            found.add(CRATES / crate / "specs" / f"{name}.antt")
+    return found
+
+
+def believed():
+    """Where reading begins, and all definitions that this rests on."""
+    found, todo = set(), [CRATES / name for name in BEGINNINGS]
+    while todo:
+        path = todo.pop()
+        if path not in found:
+            found.add(path)
+            todo += cited(path)
+    return found
+
+
+def check_believed():
+    """The table of docs/CERTIFY.md has just these files, with their lines, and the sum."""
+    rows = re.findall(r"^\| ([^|]+) \|(?: ([^|]*`[^|]*))? \| ([\d,]+) \|$", text_of(CERTIFY), re.M)
+    listed, total = set(), 0
+    for what, names, lines in rows:
+        number = int(lines.replace(",", ""))
+        if not names:
+            if number != total:
+                yield f"{CERTIFY}: {what}: {number} lines; they are {total}"
+            continue
+        files = {CRATES / name for quoted in re.findall(r"`([^`]+)`", names) for name in expanded(quoted)}
+        counted = sum(len(path.read_text().splitlines()) for path in files if path.is_file())
+        if counted != number:
+            yield f"{CERTIFY}: {what}: {number} lines; they are {counted}"
+        listed, total = listed | files, total + counted
+    for path in sorted(listed ^ believed()):
+        yield f"{CERTIFY}: {path.relative_to(CRATES)} is {'not to be believed' if path in listed else 'left out'}"
+
+
+def check_wrong_programs():
+    """The wrong programs of the calls stand in the crates named."""
+    rows = [line for line in text_of(CERTIFY).splitlines() if line.startswith("| `kindi_")]
+    for row in rows:
+        crate, count = None, 0
+        for name, colon in re.findall(r"`(\w+)`(:?)", row.strip("|").split("|")[-1]):
+            if colon:
+                crate = name
+            elif not (CRATES / str(crate) / "must-fail" / f"{name}.edit").is_file():
+                yield f"{CERTIFY}: {crate} has no wrong program {name}"
+            count += not colon
+        if count < 2:
+            yield f"{CERTIFY} names {count} wrong programs in the row {row[:40]}"
+    if not rows:
+        yield f"{CERTIFY} has no row of a call"
+
+
+def check_version():
+    """The header's version is the highest that a change note names; request number N makes 0.(N + 1).0."""
+    found = dict(re.findall(r"#define KINDI_VERSION_(\w+) (\d+)", text_of("include/kindi.h")))
+    version = ".".join(found.get(part, "?") for part in ("MAJOR", "MINOR", "PATCH"))
+    highest = 0
+    for path in sorted((ROOT / "docs/changes").glob("*.md")):
+        number = int(path.name[:2])
+        highest = max(highest, number)
+        if f"Version 0.{number + 1}.0" not in path.read_text():
+            yield f"docs/changes/{path.name} does not say 'Version 0.{number + 1}.0'"
+    if version != f"0.{highest + 1}.0":
+        yield f"the header's version is {version}; docs/changes/ has 0.{highest + 1}.0"
+
+
+def check_examples():
+    for path in sorted((ROOT / "examples").glob("*.c")):
+        for document in ("README.md", "examples/run.py"):
+            word = f"`examples/{path.name}`" if document.endswith(".md") else f'"{path.stem}":'
+            if word not in text_of(document):
+                yield f"{document} does not name the example {path.name}"
+
+
+CHECKS = [check_readers, check_links, check_names, check_believed, check_wrong_programs, check_version, check_examples]
+
+
+def main():
+    wrong = [said for check in CHECKS for said in check()]
+    for said in wrong:
+        print(f"documents.py: {said}")
+    if wrong:
+        sys.exit(1)
+    print(f"{len(believed())} files to believe, {len(CHECKS)} checks passed")
+
+
+main()
