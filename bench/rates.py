@@ -1,7 +1,7 @@
 #!/usr/bin/env python3
 """How often an encryption with random coins is not clear, for each parameter set: by the mean and the
-deviation of the noise, by its whole distribution, and for single keys. Prints a table, in half a minute;
-not a test, and no part of the gate.
+deviation of the noise, by its whole distribution, and for single keys. Prints a table, in a
+minute; not a test, and no part of the gate.
 
 usage: rates.py [KEYS]    how many single keys of each set to look at, 20 where no number is named
 
@@ -12,7 +12,8 @@ centred either, so a product has a mean, and the means of the products add up to
 
     mean(x) = l (2x + 2 − n) 2^t / 4 − 1/2.
 
-The rates of the coefficients are added. A tail is so far out that it is worked out at the saddle point (by
+The rates of the coefficients are added: together they are at least the chance that is looked for, and here hardly
+more. A tail is so far out that it is worked out at the saddle point (by
 exponential tilting, for a sum of whole numbers), which agrees with exact sums at n = 64 and 128 to a
 fiftieth of a bit.
 """
@@ -32,6 +33,9 @@ CLAIMED = {1: -192, 2: -284, 3: -165, 4: -276}
 
 # Random encryptions, of a key each, by which mean and deviation are measured.
 SAMPLES = 1000
+
+# A chance that is smaller than the largest by this factor, as a logarithm, adds nothing to be seen.
+NOTHING = 24 * math.log(2)
 
 
 def uniform(low, high):
@@ -137,14 +141,19 @@ def add_logs(logs):
     return most + math.log(sum(math.exp(one - most) for one in logs))
 
 
-def rate(source, step):
-    """The logarithm to base 2 of the chance that some coefficient is q/4 or more in absolute value; every
-    step-th coefficient stands for those beside it."""
+def rate(source):
+    """The logarithm to base 2 of what the chances add up to that a coefficient is q/4 or more in absolute value.
+    That is the most that some coefficient can have, and near to it, since two seldom overshoot together. Means
+    are largest at the last coefficient and least at the first; going inwards, what adds nothing more is left out."""
     s, logs = source.s, []
-    for x in range(step // 2, s.n, step):
-        terms = source.terms(x)
-        logs += [upper_tail(terms, s.q // 4), upper_tail(negated(terms), s.q // 4)]
-    return (add_logs(logs) + math.log(step)) / math.log(2)
+    for places, turned in (range(s.n - 1, -1, -1), lambda terms: terms), (range(s.n), negated):
+        one_side = []
+        for x in places:
+            one_side.append(upper_tail(turned(source.terms(x)), s.q // 4))
+            if one_side[-1] < max(one_side) - NOTHING:
+                break
+        logs += one_side
+    return add_logs(logs) / math.log(2)
 
 
 def mean_and_deviation(dist, x):
@@ -192,9 +201,9 @@ def main():
         assert all(abs(mean - (s.l * (2 * x + 2 - s.n) * 2**s.t / 4 - 0.5)) < 1e-6 for x, (mean, _) in enumerate(ramp))
         end, deviation = measured(s, rng, ramp)
         centred = normal_rate(s, [(0, deviation) for _, deviation in ramp])
-        single = sorted(rate(Key(dist, rng), 16) for _ in range(keys))
+        single = sorted(rate(Key(dist, rng)) for _ in range(keys))
         print(f"| {number} | {s.q // 4} | {ramp[-1][0]:.0f}, {end:.0f} | {ramp[-1][1]:.1f}, {deviation:.1f} "
-              f"| 2^{centred:.0f} | 2^{normal_rate(s, ramp):.0f} | 2^{rate(dist, 4):.0f} "
+              f"| 2^{centred:.0f} | 2^{normal_rate(s, ramp):.0f} | 2^{rate(dist):.0f} "
               f"| {', '.join(f'2^{single[at]:.0f}' for at in (-1, len(single) // 2, 0))} | 2^{CLAIMED[number]} |",
               flush=True)
 

@@ -41,7 +41,7 @@ struct call {
 };
 
 /*
- * Each function below makes one call and notes the address of its own frame. From -O1 on it has no variable in that
+ * Each function that follows makes one call and notes the address of its own frame. From -O1 on it has no variable in that
  * frame, so what lies below the address is what the call takes. Then it does what CLEAR says: nothing, where a
  * program does not define it.
  */

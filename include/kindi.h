@@ -289,8 +289,8 @@ KINDI_CHECK_STATUS uint32_t kindi_decaps(uint32_t set, const uint8_t *secret_key
  * off from the one that stands for the coins. It has to be small for them to come back.
  *
  * The coins and the message are clear where every coefficient of the noise is strictly between -q/4 and
- * q/4. What is clear comes back when its ciphertext is decrypted, and no two clear pairs share a
- * ciphertext. The noise depends on the secret key: tell nobody the largest value.
+ * q/4. What is clear comes back when its ciphertext is decrypted, and under one key pair no two clear pairs
+ * share a ciphertext. The noise depends on the secret key: tell nobody the largest value.
  *
  *   secret_key   KINDI_SECRET_KEY_LEN bytes, of kindi_keygen
  *   coins        KINDI_COINS_LEN bytes

@@ -24,10 +24,14 @@ SOURCES = ["crates/*/src/**/*.rt", "crates/*/specs/**/*.antt", "crates/*/proofs/
 # Names in backticks that stand for something outside the tree.
 OUTSIDE = {"rt", "read", "write", "usize", "end", "requires", "ensures", "make", "gcc", "valgrind", "strace", "now"}
 
-# Where reading begins: the contracts of the library, the theorems on what its calls leave, the table of lengths,
-# and what the program prints.
+# How many requests 02 has.
+REQUESTS = 13
+
+# Where reading begins: the contracts of the library, the theorems on what its calls leave, the table of lengths and
+# the examples; what the program prints, and what its functions leave.
 BEGINNINGS = ["scheme/src/lib.rt", "scheme/proofs/Demand3.antt", "scheme/proofs/Recipients.antt",
-              "kindi/specs/Lengths.antt", "records/specs/Transcript.antt"]
+              "kindi/specs/Lengths.antt", "kindi/proofs/Examples.antt", "records/specs/Transcript.antt",
+              "records/specs/Steps.antt", "record_calls/specs/Outputs.antt", "linkcheck/specs/Turns.antt"]
 
 
 def text_of(name):
@@ -38,7 +42,7 @@ def check_readers():
     for path in [ROOT / "README.md", *sorted((ROOT / "docs").glob("*.md"))]:
         lines = path.read_text().splitlines()
         if len(lines) < 3 or not re.match(r"# \S", lines[0]) or not lines[2].startswith("For "):
-            yield f"{path.name}: the line below its title does not say whom it is for"
+            yield f"{path.name}: the line after its title does not say whom it is for"
 
 
 def check_links():
@@ -80,48 +84,59 @@ def check_names():
                     yield f"{document}: {word} stands nowhere in the sources"
 
 
-def cited(path):
-    """The files of specs/ that a file rests on, by its `use` lines."""
-    found = set()
-    for crate, name in re.findall(r"^(?:ghost )?use Rattle·(\w+?)(?:·specs)?\.specs\.(\w+)\.", path.read_text(), re.M):
-        if name != "declared":
-            found.add(CRATES / crate / "specs" / f"{name}.antt")
-    return found
+def declaration(crate, name):
+    """Where a struct or an enum of a crate is declared, and its lines with the comment in front of it."""
+    for path in sorted((CRATES / crate / "src").glob("*.rt")):
+        found = re.search(rf"(?:^//.*\n)*^(?:pub )?(?:struct|enum) {name} \{{\n(?:.*\n)*?^\}}$", path.read_text(), re.M)
+        if found:
+            return path, len(found[0].splitlines())
+    return CRATES / crate / "src", 0
 
 
 def believed():
-    """Where reading begins, and all definitions that this rests on."""
-    found, todo = set(), [CRATES / name for name in BEGINNINGS]
+    """The lines of each file that has to be believed: where reading begins, all definitions that this rests on, and
+    of sources the structs and enums that these name."""
+    whole, declared, todo = set(), {}, [CRATES / name for name in BEGINNINGS]
     while todo:
         path = todo.pop()
-        if path not in found:
-            found.add(path)
-            todo += cited(path)
-    return found
+        if path in whole:
+            continue
+        whole.add(path)
+        uses = re.findall(r"^(?:ghost )?use Rattle·(\w+?)(?:·specs)?\.specs\.([\w.]+?)(?:\.the-variants)?\.\{", path.read_text(), re.M)
+        for crate, name in uses:
+            if name.startswith("declared."):
+                source, lines = declaration(crate, name.rpartition(".")[2])
+                declared.setdefault(source, {})[name] = lines
+            else:
+                todo.append(CRATES / crate / "specs" / f"{name}.antt")
+    counts = {path: len(path.read_text().splitlines()) for path in whole}
+    return counts | {path: sum(lines.values()) for path, lines in declared.items()}
 
 
 def check_believed():
     """The table of docs/CERTIFY.md has just these files, with their lines, and the sum."""
     rows = re.findall(r"^\| ([^|]+) \|(?: ([^|]*`[^|]*))? \| ([\d,]+) \|$", text_of(CERTIFY), re.M)
-    listed, total = set(), 0
+    right, listed, total = believed(), set(), 0
     for what, names, lines in rows:
         number = int(lines.replace(",", ""))
         if not names:
             if number != total:
                 yield f"{CERTIFY}: {what}: {number} lines; they are {total}"
+            if f"({total:,} lines for the library)" not in text_of("README.md"):
+                yield f"README.md does not say that {total:,} lines are to be believed for the library"
             continue
         files = {CRATES / name for quoted in re.findall(r"`([^`]+)`", names) for name in expanded(quoted)}
-        counted = sum(len(path.read_text().splitlines()) for path in files if path.is_file())
+        counted = sum(right.get(path, 0) for path in files)
         if counted != number:
             yield f"{CERTIFY}: {what}: {number} lines; they are {counted}"
         listed, total = listed | files, total + counted
-    for path in sorted(listed ^ believed()):
+    for path in sorted(listed ^ right.keys()):
         yield f"{CERTIFY}: {path.relative_to(CRATES)} is {'not to be believed' if path in listed else 'left out'}"
 
 
 def check_wrong_programs():
     """The wrong programs of the calls stand in the crates named."""
-    rows = [line for line in text_of(CERTIFY).splitlines() if line.startswith("| `kindi_")]
+    rows = [line for line in text_of(CERTIFY).splitlines() if line.startswith(("| `kindi_", "| all:"))]
     for row in rows:
         crate, count = None, 0
         for name, colon in re.findall(r"`(\w+)`(:?)", row.strip("|").split("|")[-1]):
@@ -136,18 +151,23 @@ def check_wrong_programs():
         yield f"{CERTIFY} has no row of a call"
 
 
+def version_of(number):
+    """The version that a request makes; the base is request 0, and the last makes 1.0.0."""
+    return "1.0.0" if number == REQUESTS else f"0.{number + 1}.0"
+
+
 def check_version():
-    """The header's version is the highest that a change note names; request number N makes 0.(N + 1).0."""
+    """The header's version is the highest that a change note names."""
     found = dict(re.findall(r"#define KINDI_VERSION_(\w+) (\d+)", text_of("include/kindi.h")))
     version = ".".join(found.get(part, "?") for part in ("MAJOR", "MINOR", "PATCH"))
     highest = 0
     for path in sorted((ROOT / "docs/changes").glob("*.md")):
         number = int(path.name[:2])
         highest = max(highest, number)
-        if f"Version 0.{number + 1}.0" not in path.read_text():
-            yield f"docs/changes/{path.name} does not say 'Version 0.{number + 1}.0'"
-    if version != f"0.{highest + 1}.0":
-        yield f"the header's version is {version}; docs/changes/ has 0.{highest + 1}.0"
+        if f"Version {version_of(number)}" not in path.read_text():
+            yield f"docs/changes/{path.name} does not say 'Version {version_of(number)}'"
+    if version != version_of(highest):
+        yield f"the header's version is {version}; docs/changes/ has {version_of(highest)}"
 
 
 def check_examples():

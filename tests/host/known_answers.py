@@ -9,7 +9,7 @@ from support import ROOT, check, main
 FOLDER = ROOT / "tests" / "vectors" / "known_answers"
 
 
-# What a part may leave out, since one above gave it out.
+# What a part may leave out, since an earlier one gave it out.
 KEPT = ("public_key", "secret_key", "ciphertext")
 
 

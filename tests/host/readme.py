@@ -1,6 +1,6 @@
 #!/usr/bin/env python3
 """What README.md and docs/SCHEME.md show is so: the C program compiles with README's own command, and without a
-warning, and prints its message; the line of linkcheck prints the lines below it; and the shared keys of
+warning, and prints its message; the line of linkcheck prints what is shown after it; and the shared keys of
 zero seeds and coins begin as SCHEME.md says."""
 
 import re

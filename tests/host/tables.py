@@ -39,7 +39,7 @@ LISTS = {
     "ciphertexts of `kindi_encrypt_each`": ("KINDI_CIPHERTEXT_LEN", "KINDI_MAX_RECIPIENTS"),
 }
 
-# The macros that a row of lengths answers to, each of them; a list answers to its row above.
+# The macros that a row of lengths answers to, each of them; a list answers to its row of LISTS.
 ROWS = {
     "seed, coins, shared key": ["KINDI_SEED_LEN", "KINDI_COINS_LEN", "KINDI_KEY_LEN"],
     "public key": ["KINDI_PUBLIC_KEY_LEN"],

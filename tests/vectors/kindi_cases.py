@@ -8,7 +8,7 @@ A file is text. A part begins with a call's name in brackets and has a line 'nam
 input, output and returned value of that call, in the order of its arguments. An input or output is bytes
 in hexadecimal, and nothing where there are none; a count is a decimal number, and a returned value is one,
 or all right ones where several are right. A key or a ciphertext that has no line is the one that the last
-part above gave out. A refusal has a line 'status = number' in place of what it leaves alone. Lines that
+part before gave out. A refusal has a line 'status = number' in place of what it leaves alone. Lines that
 begin with # are comments.
 
 Two lists are not written out, since they would take most of a file: public_keys has, for each key, which
@@ -36,7 +36,7 @@ def draw(number, what, size):
     return hashlib.shake_256(f"KINDI known answers, set {number}, {what}".encode()).digest(size)
 
 
-# What a part leaves out where one above gave it out.
+# What a part leaves out where an earlier one gave it out.
 KEPT = ("public_key", "secret_key", "ciphertext")
 
 
@@ -92,7 +92,7 @@ def pairs(number, s):
 
 
 def refused(parts, coins):
-    """A refusal of each number from 5 to 8, under the keys above and with the empty message above."""
+    """A refusal of each number from 5 to 8, under the keys and with the empty message of earlier parts."""
     s, above = parts.s, parts.above
     public_key, secret_key, ciphertext = (above[key] for key in ("public_key", "secret_key", "ciphertext"))
     polys = kindi.polynomials(s, s.k, ciphertext)

@@ -119,7 +119,7 @@ pub record WellFormed (P : Params) : Type 0 where
   pub vector : P .l * P .n ≤ 1536
   pub cipher-fits : ciphertextLength P ≤ 3584
   pub padded-fits : paddedLength P ≤ 1024
-  -- with n and ℓ as above, what keeps every sum of the noise within 32 bits
+  -- with these bounds of n and ℓ, what keeps every sum of the noise within 32 bits
   pub small-secrets : P .p ≤ 64
   pub few-dropped : P .t ≤ 6
   pub some-rate : 0 < P .rate
