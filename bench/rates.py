@@ -62,22 +62,29 @@ def moments(xs):
 
 
 class Set:
-    """The distributions of a set's values."""
+    """The distributions of a set's values. A sender who draws coins and message at random has them all uniform; one
+    who does not may have coins of zeros, so that the coefficients of s_1 are even with p taken off, and a message
+    that makes every error the largest."""
 
-    def __init__(self, number):
+    def __init__(self, number, zero_coins=False, largest_errors=False):
         s = self.s = kindi.SETS[number]
         self.small = uniform(-s.p, s.p - 1)
+        self.errors = {s.p - 1: 1.0} if largest_errors else self.small
         self.low = uniform(-2**(s.t - 1), 2**(s.t - 1) - 1)
         # X less w: what a key gives to it.
         key = combine(lambda x, y: x - y, self.small, uniform(0, 2**s.t - 1))
-        self.first = product(combine(lambda x, y: x + y, self.low, key), self.small)
-        self.second = product(self.small, self.small)
+        x = combine(lambda x, y: x + y, self.low, key)
+        even = {value: 1 / s.p for value in range(-s.p, s.p, 2)}
+        self.firsts = [(1, product(x, even if zero_coins else self.small)), (s.l - 1, product(x, self.small))]
+        self.second = product(self.errors, self.small)
 
     def terms(self, x):
         """The terms of coefficient x over random keys: the sign, how many, and the distribution of each."""
-        plus, minus = self.s.l * (x + 1), self.s.l * (self.s.n - 1 - x)
-        return [(1, plus, self.first), (-1, minus, self.first), (-1, plus, self.second), (1, minus, self.second),
-                (1, 1, self.small)]
+        plus, minus = x + 1, self.s.n - 1 - x
+        found = [(1, 1, self.errors), (-1, self.s.l * plus, self.second), (1, self.s.l * minus, self.second)]
+        for count, values in self.firsts:
+            found += [(1, count * plus, values), (-1, count * minus, values)]
+        return found
 
 
 class Key:
@@ -119,8 +126,11 @@ def tilted(terms, theta):
 
 
 def upper_tail(terms, least):
-    """The logarithm of the chance that the sum is at least so large, which is far above its mean."""
-    theta = 0.0
+    """The logarithm of the chance that the sum is at least so large, where that is far out; 0, a chance of 1, where
+    it is not."""
+    theta, (_, mean, variance) = 0.0, tilted(terms, 0.0)
+    if least - mean < 2 * math.sqrt(variance):
+        return 0.0
     for _ in range(60):
         total, first, second = tilted(terms, theta)
         step = (least - first) / second
@@ -187,13 +197,18 @@ def measured(s, rng, ramp):
     return end / SAMPLES, math.sqrt(square / SAMPLES)
 
 
+def power(exponent):
+    """A chance from its logarithm to base 2; where chances add up to more than 1 they say nothing."""
+    return f"2^{exponent:.0f}" if exponent < -1 else "often"
+
+
 def main():
     keys = int(sys.argv[1]) if len(sys.argv) > 1 else 20
     rng = random.Random("rates of the noise")
     print("| set | q/4 | last mean of the ramp: worked out, measured | deviation: worked out, measured "
           "| normal, mean left out | normal, with the mean | whole distribution "
-          f"| {keys} single keys: worst, median, best | claimed |")
-    print("|--|--:|--:|--:|--:|--:|--:|--:|--:|")
+          f"| {keys} single keys: worst, median, best | coins of zeros | largest errors | both | claimed |")
+    print("|--|--:|--:|--:|--:|--:|--:|--:|--:|--:|--:|--:|")
     for number in kindi.SETS:
         dist = Set(number)
         s = dist.s
@@ -204,8 +219,9 @@ def main():
         single = sorted(rate(Key(dist, rng)) for _ in range(keys))
         print(f"| {number} | {s.q // 4} | {ramp[-1][0]:.0f}, {end:.0f} | {ramp[-1][1]:.1f}, {deviation:.1f} "
               f"| 2^{centred:.0f} | 2^{normal_rate(s, ramp):.0f} | 2^{rate(dist):.0f} "
-              f"| {', '.join(f'2^{single[at]:.0f}' for at in (-1, len(single) // 2, 0))} | 2^{CLAIMED[number]} |",
-              flush=True)
+              f"| {', '.join(f'2^{single[at]:.0f}' for at in (-1, len(single) // 2, 0))} "
+              f"| {power(rate(Set(number, True)))} | {power(rate(Set(number, False, True)))} "
+              f"| {power(rate(Set(number, True, True)))} | 2^{CLAIMED[number]} |", flush=True)
 
 
 main()

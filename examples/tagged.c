@@ -11,7 +11,9 @@
  *
  * What it does not show: who encrypted, and when. Whoever has the public key can encrypt a programme of their
  * own, with coins and a tag of their own, and a ciphertext that is sent again is taken again. Who may speak to the
- * oven is the business of the link's certificates. The tag is no promise of the library: it is tested, not proved.
+ * oven is the business of the link's certificates, and it matters: a sender who learns of some thousands of their own
+ * programmes whether each was taken can work out the oven's secret key (README.md, "What stays with the caller").
+ * The tag is no promise of the library: it is tested, not proved.
  *
  * The programme is the first argument, or one of its own where there is none. Prints what happened, and exits
  * with 1 where a call does not answer as it should, an altered copy is taken, or the tag refuses none.
@@ -26,8 +28,8 @@
 #define TAG_LEN 32u
 #define PROGRAMME_MAX_LEN (KINDI_MESSAGE_MAX_LEN(SET) - TAG_LEN)
 
-/* A refusal of this file; no number of the library. */
-#define WRONG_TAG 100u
+/* The one refusal of decrypt_programme, whatever was wrong; no number of the library. */
+#define REFUSED 100u
 
 /* Shared by the three functions that follow, so one call at a time. They hold secrets: a product wipes them after use. */
 static uint8_t message[KINDI_MESSAGE_MAX_LEN(SET)], message_coins[COINS_LEN];
@@ -60,9 +62,9 @@ static uint32_t encrypt_programme(const uint8_t *public_key, const uint8_t *coin
 }
 
 /*
- * The oven's side: writes the programme, which has room for PROGRAMME_MAX_LEN bytes, only where its tag is right.
- * The number of a refusal is for the oven alone: who sends altered copies and learns whether the library or the tag
- * refused them, from an answer or from the time that it takes, can work out the coins and read the programme.
+ * The oven's side: writes the programme, which has room for PROGRAMME_MAX_LEN bytes, only where its tag is right. It
+ * does not tell whether the library or the tag refused: who sends altered copies and learns that can work out the
+ * coins and read the programme. The two differ in time, by the hash, so an answer goes out at a fixed time, if at all.
  */
 static uint32_t decrypt_programme(const uint8_t *secret_key, const uint8_t *ciphertext, uint8_t *programme, size_t *len)
 {
@@ -72,19 +74,26 @@ static uint32_t decrypt_programme(const uint8_t *secret_key, const uint8_t *ciph
         KINDI_CIPHERTEXT_LEN(SET), message_coins, COINS_LEN, message, sizeof message, &message_len, work, sizeof work);
 
     *len = 0;
-    if (status != KINDI_OK)
-        return status;
-    if (message_len < TAG_LEN)
-        return WRONG_TAG;
+    if (status != KINDI_OK || message_len < TAG_LEN)
+        return REFUSED;
     tag_of(message_coins, message + TAG_LEN, message_len - TAG_LEN, tag);
     /* All bytes, then one branch: the time does not tell how many are right. */
     for (i = 0; i < TAG_LEN; i++)
         different |= tag[i] ^ message[i];
     if (different != 0)
-        return WRONG_TAG;
+        return REFUSED;
     *len = message_len - TAG_LEN;
     memcpy(programme, message + TAG_LEN, *len);
     return KINDI_OK;
+}
+
+/* Whether the library alone takes a ciphertext, to count what the tag refuses. */
+static int library_takes(const uint8_t *secret_key, const uint8_t *ciphertext)
+{
+    size_t message_len;
+
+    return kindi_decrypt(SET, secret_key, KINDI_SECRET_KEY_LEN(SET), ciphertext, KINDI_CIPHERTEXT_LEN(SET), message_coins,
+        COINS_LEN, message, sizeof message, &message_len, work, sizeof work) == KINDI_OK;
 }
 
 int main(int argc, char **argv)
@@ -94,7 +103,6 @@ int main(int argc, char **argv)
     static uint8_t programme[PROGRAMME_MAX_LEN];
     const char *text = argc > 1 ? argv[1] : "rye, 2 kg: 250 C with steam for 10 min; 200 C for 50 min";
     size_t len, bit, by_tag = 0, taken = 0;
-    uint32_t status;
 
     printf("parameter set %d\nprogramme, at most %u bytes\n  %s\n", SET, PROGRAMME_MAX_LEN, text);
     draw("seeds of the oven", seeds[0], sizeof seeds);
@@ -112,10 +120,11 @@ int main(int argc, char **argv)
     printf("  %.*s\n", (int)len, (const char *)programme);
     for (bit = 0; bit < 8 * sizeof ciphertext; bit++) {
         ciphertext[bit / 8] ^= 1u << bit % 8;
-        status = decrypt_programme(secret_key, ciphertext, programme, &len);
+        if (decrypt_programme(secret_key, ciphertext, programme, &len) == KINDI_OK)
+            taken++;
+        else if (library_takes(secret_key, ciphertext))
+            by_tag++;
         ciphertext[bit / 8] ^= 1u << bit % 8;
-        taken += status == KINDI_OK;
-        by_tag += status == WRONG_TAG;
     }
     printf("each bit of the ciphertext changed in turn\n  refused by the library %lu, by the tag %lu; taken %lu\n",
         (unsigned long)(bit - by_tag - taken), (unsigned long)by_tag, (unsigned long)taken);

@@ -6,7 +6,9 @@
  * proved and what is not.
  *
  * The library is code for x86-64 with SSE2, by the System V calling convention, which wants a stack that is
- * aligned to 16 bytes at a call. There is none for another processor today, since the compiler of the proved
+ * aligned to 16 bytes at a call. It uses the xmm registers, and the 128 bytes below the stack pointer that this
+ * convention gives to a function: an interrupt handler on the same stack has to leave both as they were.
+ * There is none for another processor today, since the compiler of the proved
  * language makes none; the proofs speak of the source with a size_t of 64 bits. It needs memcpy and memset and
  * nothing else of a C library, is position independent (shared objects, static-pie), has a section for each
  * function (--gc-sections: a program that calls kindi_keygen alone takes about 20 KB of code), allocates nothing
@@ -227,8 +229,11 @@ KINDI_CHECK_STATUS uint32_t kindi_encrypt_each(uint32_t set, uint32_t count, con
  * longest message one in 7, 10, 7 and 10. So carry a tag in the message, as examples/tagged.c does, or share a
  * key by kindi_encaps, of whose ciphertexts none so altered was taken, and authenticate the message with it.
  *
- * Whoever sends ciphertexts must not learn which refusal they met, nor, without a tag, whether an altered one
- * was taken: from some thousands of altered copies and such answers they can work out the coins and the message.
+ * Whoever alters ciphertexts must not learn which refusal they met, nor, without a tag, whether one was taken:
+ * from some thousands of altered copies and such answers they can work out the coins and the message. And
+ * whoever encrypts can choose coins and message, and so the noise: if they learn of some thousands of their
+ * own messages only whether each was taken, tag or not, they can work out the secret key. So messages are for
+ * senders that the link has authenticated (README.md, "What stays with the caller").
  *
  *   secret_key    KINDI_SECRET_KEY_LEN bytes
  *   ciphertext    KINDI_CIPHERTEXT_LEN bytes
@@ -268,7 +273,7 @@ KINDI_CHECK_STATUS uint32_t kindi_encaps(uint32_t set, const uint8_t *public_key
  *
  * The answer is a key only where kindi_encaps of the ciphertext's coins to the public key in the secret
  * key gives this key and this very ciphertext. So a ciphertext that was altered is refused, unless it is
- * another that kindi_encaps makes, and so is one of kindi_encrypt. Whoever sends ciphertexts must not learn
+ * another that kindi_encaps makes; so is one of kindi_encrypt. Whoever sends ciphertexts must not learn
  * which refusal they met: from some thousands of altered copies, and of each whether it was refused with
  * KINDI_ERROR_TOO_LARGE, they can work out the coins and the shared key.
  *

@@ -76,7 +76,7 @@ def check_names():
                     if not word.startswith("target/") and not any(path.exists() for path in there):
                         yield f"{document}: there is no {word}"
                 elif re.fullmatch(r"\w+\.(?:antt|rt|py|c|h|md|edit)", word):
-                    if word not in files and word != "NAME.edit":
+                    if word not in files | {"NAME.edit", "firmware.c"}:
                         yield f"{document}: there is no file {word}"
                 elif re.fullmatch(r"[0-9a-f]{16}", word):
                     pass

@@ -49,7 +49,7 @@ static void refused(size_t sent_len, const char *what, size_t which)
     memset(programme, 0xa5, sizeof programme);
     check(kindi_encrypt(SET, public_key, sizeof public_key, coins, sizeof coins, sent, sent_len, ciphertext,
         sizeof ciphertext, work, sizeof work) == KINDI_OK, "encrypt", which);
-    check(decrypt_programme(secret_key, ciphertext, programme, &found) == WRONG_TAG && found == 0, what, which);
+    check(decrypt_programme(secret_key, ciphertext, programme, &found) == REFUSED && found == 0, what, which);
     for (i = 0; i < sizeof programme; i++)
         check(programme[i] == 0xa5, "a refusal writes the programme", i);
 }
