@@ -5,14 +5,13 @@
  * exports. It is for whoever links the library; README.md says how to choose a parameter set, and what is
  * proved and what is not.
  *
- * The library is code for x86-64 with SSE2, by the System V calling convention, which wants a stack that is
- * aligned to 16 bytes at a call. It uses the xmm registers, and the 128 bytes below the stack pointer that this
- * convention gives to a function: an interrupt handler on the same stack has to leave both as they were.
- * There is none for another processor today, since the compiler of the proved
- * language makes none; the proofs speak of the source with a size_t of 64 bits. It needs memcpy and memset and
- * nothing else of a C library, is position independent (shared objects, static-pie), has a section for each
- * function (--gc-sections: a program that calls kindi_keygen alone takes about 20 KB of code), allocates nothing
- * and has no data that is written.
+ * The library is code for x86-64 with SSE2, by the System V calling convention, and for no other processor today,
+ * since the compiler of the proved language makes none. The proofs speak of the source with a size_t of 64 bits.
+ * The stack is aligned to 16 bytes at a call. The code uses the xmm registers, and the 128 bytes below the stack
+ * pointer that the convention gives to a function: an interrupt handler on the same stack has to leave both as
+ * they were. The library needs memcpy and memset and nothing else of a C library. It is position independent
+ * (shared objects, static-pie), has a section for each function (--gc-sections: a program that calls kindi_keygen
+ * alone takes about 20 KB of code), allocates nothing and has no data that is written.
  *
  * What holds for each call:
  *
