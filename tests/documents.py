@@ -39,7 +39,7 @@ def text_of(name):
 
 
 def check_readers():
-    for path in [ROOT / "README.md", *sorted((ROOT / "docs").glob("*.md"))]:
+    for path in [ROOT / "README.md", *sorted((ROOT / "docs").rglob("*.md"))]:
         lines = path.read_text().splitlines()
         if len(lines) < 3 or not re.match(r"# \S", lines[0]) or not lines[2].startswith("For "):
             yield f"{path.name}: the line after its title does not say whom it is for"
