@@ -3,7 +3,7 @@
 every set: pairs that come back, ciphertexts altered in every polynomial, errors and rounding at the ends
 of their ranges, padded messages that no message gives, keys that nobody made, damaged keys, and the
 examples of the paper's table of refusals. Refusal 9 is met at the practice sizes of the second
-implementation alone: in the four sets noise that is not clear is too rare for a test run."""
+implementation alone: in the four sets noise that is not clear is too rare with random coins."""
 
 import functools
 import itertools
