@@ -45,6 +45,26 @@ static void openssl_shake256(const uint8_t *input, size_t input_len, uint8_t *ou
 #define openssl_shake256 NULL
 #endif
 
+/* The library's calls, from place 0 on. */
+static void from_start(uint32_t (*call)(const uint8_t *, size_t, size_t, uint8_t *, size_t), const uint8_t *input,
+    size_t input_len, uint8_t *output, size_t output_len)
+{
+    if (call(input, input_len, 0, output, output_len) != KINDI_OK) {
+        fprintf(stderr, "bench: a SHAKE call was refused\n");
+        exit(1);
+    }
+}
+
+static void our_shake128(const uint8_t *input, size_t input_len, uint8_t *output, size_t output_len)
+{
+    from_start(kindi_shake128, input, input_len, output, output_len);
+}
+
+static void our_shake256(const uint8_t *input, size_t input_len, uint8_t *output, size_t output_len)
+{
+    from_start(kindi_shake256, input, input_len, output, output_len);
+}
+
 static const char *const names[CANDIDATES + 1] = { "ours", "C", "OpenSSL", "C bare" };
 
 static const struct kind {
@@ -52,8 +72,8 @@ static const struct kind {
     size_t rate;
     shake_fn *calls[CANDIDATES];
 } kinds[] = {
-    { "SHAKE128", 168, { kindi_shake128, ref_shake128, openssl_shake128 } },
-    { "SHAKE256", 136, { kindi_shake256, ref_shake256, openssl_shake256 } },
+    { "SHAKE128", 168, { our_shake128, ref_shake128, openssl_shake128 } },
+    { "SHAKE256", 136, { our_shake256, ref_shake256, openssl_shake256 } },
 };
 
 static const struct size {

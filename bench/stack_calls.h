@@ -58,20 +58,23 @@ static uint32_t nothing(uint32_t set)
     return 0;
 }
 
+/* From a place some blocks on, so that skipping is measured too. */
 static uint32_t shake128(uint32_t set)
 {
+    uint32_t status = kindi_shake128(input, sizeof input, 1000, output, sizeof output);
+
     (void)set;
-    kindi_shake128(input, sizeof input, output, sizeof output);
     CALLED();
-    return 0;
+    return status;
 }
 
 static uint32_t shake256(uint32_t set)
 {
+    uint32_t status = kindi_shake256(input, sizeof input, 1000, output, sizeof output);
+
     (void)set;
-    kindi_shake256(input, sizeof input, output, sizeof output);
     CALLED();
-    return 0;
+    return status;
 }
 
 static uint32_t keygen(uint32_t set)

@@ -6,6 +6,7 @@
 #define SHOWN_H
 
 #include <stdio.h>
+#include <stdlib.h>
 #include <string.h>
 
 #include "kindi.h"
@@ -17,7 +18,8 @@
  */
 static void draw(const char *label, uint8_t *bytes, size_t count)
 {
-    kindi_shake256((const uint8_t *)label, strlen(label), bytes, count);
+    if (kindi_shake256((const uint8_t *)label, strlen(label), 0, bytes, count) != KINDI_OK)
+        exit(1);
 }
 
 /* Prints what a call answered; whether it is what was expected. */

@@ -41,21 +41,25 @@ static uint8_t joined[COINS_LEN + 1u + PROGRAMME_MAX_LEN], work[KINDI_DECRYPT_WO
 #endif
 
 /* The byte 05 keeps the tag apart from what KINDI itself makes of the coins, alone or with a byte 04. */
-static void tag_of(const uint8_t *coins, const uint8_t *programme, size_t len, uint8_t *tag)
+static uint32_t tag_of(const uint8_t *coins, const uint8_t *programme, size_t len, uint8_t *tag)
 {
     memcpy(joined, coins, COINS_LEN);
     joined[COINS_LEN] = 5;
     memcpy(joined + COINS_LEN + 1, programme, len);
-    kindi_shake256(joined, COINS_LEN + 1 + len, tag, TAG_LEN);
+    return kindi_shake256(joined, COINS_LEN + 1 + len, 0, tag, TAG_LEN);
 }
 
 /* The sender's side. The coins are fresh random bytes for this ciphertext alone: see draw in shown.h. */
 static uint32_t encrypt_programme(const uint8_t *public_key, const uint8_t *coins, const uint8_t *programme,
     size_t len, uint8_t *ciphertext)
 {
+    uint32_t status;
+
     if (len > PROGRAMME_MAX_LEN)
         return KINDI_MESSAGE_TOO_LONG;
-    tag_of(coins, programme, len, message);
+    status = tag_of(coins, programme, len, message);
+    if (status != KINDI_OK)
+        return status;
     memcpy(message + TAG_LEN, programme, len);
     return kindi_encrypt(SET, public_key, KINDI_PUBLIC_KEY_LEN(SET), coins, COINS_LEN, message, TAG_LEN + len,
         ciphertext, KINDI_CIPHERTEXT_LEN(SET), work, sizeof work);
@@ -74,9 +78,9 @@ static uint32_t decrypt_programme(const uint8_t *secret_key, const uint8_t *ciph
         KINDI_CIPHERTEXT_LEN(SET), message_coins, COINS_LEN, message, sizeof message, &message_len, work, sizeof work);
 
     *len = 0;
-    if (status != KINDI_OK || message_len < TAG_LEN)
+    if (status != KINDI_OK || message_len < TAG_LEN
+        || tag_of(message_coins, message + TAG_LEN, message_len - TAG_LEN, tag) != KINDI_OK)
         return REFUSED;
-    tag_of(message_coins, message + TAG_LEN, message_len - TAG_LEN, tag);
     /* All bytes, then one branch: the time does not tell how many are right. */
     for (i = 0; i < TAG_LEN; i++)
         different |= tag[i] ^ message[i];

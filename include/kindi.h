@@ -38,7 +38,7 @@ extern "C" {
 
 /* The version: each of the makers' change requests raises the minor number (docs/changes/). */
 #define KINDI_VERSION_MAJOR 0
-#define KINDI_VERSION_MINOR 2
+#define KINDI_VERSION_MINOR 3
 #define KINDI_VERSION_PATCH 0
 
 /* A status that is not looked at is a warning, where the compiler can give one: the outputs of a refused call
@@ -53,17 +53,28 @@ extern "C" {
 #define KINDI_CHECK_STATUS
 #endif
 
-/*
- * SHAKE128 of FIPS 202: fills output with the first output_len bytes of SHAKE128 of the input's
- * bytes. It has an answer for every pair of lengths, so it refuses nothing and returns nothing.
- */
-void kindi_shake128(const uint8_t *input, size_t input_len, uint8_t *output, size_t output_len);
+/* How far the SHAKE calls give the output of SHAKE: what they are asked for ends here at the latest. */
+#define KINDI_SHAKE_LIMIT 1048576u
 
 /*
- * SHAKE256 of FIPS 202: fills output with the first output_len bytes of SHAKE256 of the input's
- * bytes. It has an answer for every pair of lengths, so it refuses nothing and returns nothing.
+ * SHAKE128 and SHAKE256 of FIPS 202, from any place of their output.
+ *
+ * Each fills output with the bytes of SHAKE of the input from a place on, as many as the output is long: byte j of
+ * the output is byte place + j of SHAKE's, counted from 0. So place 0 gives SHAKE's first bytes, and a long output
+ * can be had in parts, each from where the one before it ended. There is one check, that place plus output_len is
+ * not over KINDI_SHAKE_LIMIT, and nothing overflows, whatever the two are. The bytes before the place are computed
+ * and kept nowhere: the time grows with place plus output_len, the memory does not.
+ *
+ *   input    of any length
+ *   place    that of the first byte wanted, from 0
+ *   output   output, of any length up to KINDI_SHAKE_LIMIT less the place
+ *
+ * Returns KINDI_OK or KINDI_PAST_LIMIT.
  */
-void kindi_shake256(const uint8_t *input, size_t input_len, uint8_t *output, size_t output_len);
+KINDI_CHECK_STATUS uint32_t kindi_shake128(const uint8_t *input, size_t input_len, size_t place, uint8_t *output,
+    size_t output_len);
+KINDI_CHECK_STATUS uint32_t kindi_shake256(const uint8_t *input, size_t input_len, size_t place, uint8_t *output,
+    size_t output_len);
 
 /*
  * Parameter sets, by number. A key, a ciphertext and a shared key belong to one set, and the set is
@@ -116,12 +127,13 @@ void kindi_shake256(const uint8_t *input, size_t input_len, uint8_t *output, siz
 #define KINDI_CHOOSE_MAX_COINS 8u
 
 /* The most bytes of stack that a call takes, its arguments and its return address included. */
-#define KINDI_STACK_LEN 24432u
+#define KINDI_STACK_LEN 24448u
 
 /*
- * What the calls of the scheme return: 0 for success, otherwise the number of a refusal. A call makes its checks
+ * What the calls return: 0 for success, otherwise the number of a refusal. A call of the scheme makes its checks
  * in the order in which they are listed here, which is not that of their numbers: 1, 13, 2, 3, 4, 14, 5, 6,
- * 7, 8, 9. Where several things are wrong, the first of the list that applies to the call is returned.
+ * 7, 8, 9. Where several things are wrong, the first of the list that applies to the call is returned. The SHAKE
+ * calls have one check, 15, and no other call has it.
  *
  * A refusal leaves every output slice as it was, and a value that is returned through a pointer is then 0.
  * The work area is scratch memory that the caller lends, with any content and at any address. One that
@@ -148,7 +160,8 @@ enum kindi_status {
     KINDI_WRONG_PADDING = 6,    /* what was encrypted is no padded message */
     KINDI_WRONG_DIGEST = 7,     /* what was encrypted is not what kindi_encaps encrypts */
     KINDI_WRONG_PUBLIC_KEY = 8, /* the secret key holds a public key that its seeds mu and gamma do not give */
-    KINDI_NONE_CLEAR = 9        /* none of the coins to choose from is clear */
+    KINDI_NONE_CLEAR = 9,       /* none of the coins to choose from is clear */
+    KINDI_PAST_LIMIT = 15       /* what is asked of SHAKE ends past KINDI_SHAKE_LIMIT */
 };
 
 /*

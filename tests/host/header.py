@@ -8,7 +8,9 @@ import shutil
 import subprocess
 import sys
 
-from support import BUILD, HEADER, INCLUDE, ROOT, WARNINGS, check, defined_lengths, defined_statuses, main, run
+from shake import LIMIT
+from support import (BUILD, HEADER, INCLUDE, ROOT, WARNINGS, check, declared_functions, defined_lengths,
+                     defined_statuses, main, run)
 
 sys.path.insert(0, str(ROOT / "tests"))
 
@@ -34,14 +36,15 @@ LENGTHS = {
     **{f"KINDI_{name.upper()}_WORK_LEN": this.work for name, this in kindi.CALLS.items()},
 }
 
-# In the order of the paper's checks.
+# In the order of the paper's checks; the one of the SHAKE calls stands last.
 STATUSES = {"KINDI_OK": 0, "KINDI_NO_SUCH_SET": 1, "KINDI_WRONG_COUNT": 13, "KINDI_WRONG_INPUT_LEN": 2,
             "KINDI_MESSAGE_TOO_LONG": 3, "KINDI_WRONG_OUTPUT_LEN": 4, "KINDI_EQUAL_COINS": 14,
             "KINDI_ERROR_TOO_LARGE": 5, "KINDI_WRONG_PADDING": 6, "KINDI_WRONG_DIGEST": 7,
-            "KINDI_WRONG_PUBLIC_KEY": 8, "KINDI_NONE_CLEAR": 9}
+            "KINDI_WRONG_PUBLIC_KEY": 8, "KINDI_NONE_CLEAR": 9, "KINDI_PAST_LIMIT": 15}
 
-# The most items of a list.
-LIMITS = {"KINDI_MAX_RECIPIENTS": kindi.MOST_RECIPIENTS, "KINDI_CHOOSE_MAX_COINS": kindi.MOST_COINS}
+# The most items of a list, and how far the SHAKE calls go.
+LIMITS = {"KINDI_MAX_RECIPIENTS": kindi.MOST_RECIPIENTS, "KINDI_CHOOSE_MAX_COINS": kindi.MOST_COINS,
+          "KINDI_SHAKE_LIMIT": LIMIT}
 
 
 def length(name, number):
@@ -66,7 +69,7 @@ def check_statuses():
     """A status that is lost is a warning for each call that has one, and none where it is looked at or the compiler
     names no attribute; how many compilers and languages were tried."""
     calls, tried = calls_with_status(), 0
-    check(len(calls) == len(kindi.CALLS), f"the header has {len(calls)} calls with a status")
+    check(len(calls) == len(declared_functions()), f"the header has {len(calls)} calls with a status")
     lost, looked_at = BUILD / "lost.c", BUILD / "looked_at.c"
     lost.write_text('#include "kindi.h"\nvoid f(void);\nvoid f(void) {' + "".join(f" {call};" for call in calls) + " }\n")
     looked_at.write_text('#include "kindi.h"\nuint32_t f(void);\nuint32_t f(void) { return ' + " | ".join(calls) + "; }\n")

@@ -1,7 +1,7 @@
 /*
  * Calls the two SHAKE functions from C: NIST's example values, empty slices, what lies round the
- * buffers, and the same call twice. It names each part as it starts, so that the last line says where
- * a crash was.
+ * buffers, the same call twice, and what is refused. It names each part as it starts, so that the last
+ * line says where a crash was.
  */
 #define _DEFAULT_SOURCE
 
@@ -16,7 +16,7 @@
 #define GUARD 64
 #define MOST 5000
 
-typedef void shake_fn(const uint8_t *input, size_t input_len, uint8_t *output, size_t output_len);
+typedef uint32_t shake_fn(const uint8_t *input, size_t input_len, size_t place, uint8_t *output, size_t output_len);
 
 /* The first 32 bytes of NIST's example values: of no input, and of 200 bytes A3. */
 static const struct kind {
@@ -38,6 +38,14 @@ static void fail(const struct kind *kind, const char *what, size_t input_len, si
     printf("FAILED: %s, %lu bytes of input, %lu of output: %s\n", kind->name, (unsigned long)input_len,
         (unsigned long)output_len, what);
     exit(1);
+}
+
+/* A call that is not refused. */
+static void give(const struct kind *kind, const uint8_t *input, size_t input_len, size_t place, uint8_t *output,
+    size_t output_len)
+{
+    if (kind->call(input, input_len, place, output, output_len) != KINDI_OK)
+        fail(kind, "refused", input_len, output_len);
 }
 
 static void fill(uint8_t *p, size_t n, unsigned seed)
@@ -68,9 +76,9 @@ static void examples(const struct kind *kind)
     uint8_t a3[200];
 
     memset(a3, 0xa3, sizeof a3);
-    kind->call(a3, sizeof a3, out32, 32);
+    give(kind, a3, sizeof a3, 0, out32, 32);
     expect_hex(kind, out32, sizeof a3, kind->of_a3);
-    kind->call(a3, 0, out32, 32);
+    give(kind, a3, 0, 0, out32, 32);
     expect_hex(kind, out32, 0, kind->of_empty);
 }
 
@@ -79,14 +87,16 @@ static void nulls(const struct kind *kind)
     uint8_t in[300], before[300];
 
     memset(out32, 0, 32);
-    kind->call(NULL, 0, out32, 32);
+    give(kind, NULL, 0, 0, out32, 32);
     expect_hex(kind, out32, 0, kind->of_empty);
     fill(in, sizeof in, 1);
     memcpy(before, in, sizeof in);
-    kind->call(in, sizeof in, NULL, 0);
+    give(kind, in, sizeof in, 0, NULL, 0);
+    give(kind, in, sizeof in, KINDI_SHAKE_LIMIT, NULL, 0);
     if (memcmp(in, before, sizeof in) != 0)
         fail(kind, "the input was changed", sizeof in, 0);
-    kind->call(NULL, 0, NULL, 0);
+    give(kind, NULL, 0, 0, NULL, 0);
+    give(kind, NULL, 0, kind->rate, NULL, 0);
 }
 
 /*
@@ -94,7 +104,7 @@ static void nulls(const struct kind *kind)
  * multiple of 8. It is made twice, over two different fillings, so that a byte of the output that the
  * call does not write shows.
  */
-static void guarded_call(const struct kind *kind, size_t input_len, size_t output_len)
+static void guarded_call(const struct kind *kind, size_t input_len, size_t place, size_t output_len)
 {
     static uint8_t in[MOST], in_before[MOST], first[MOST];
     static uint8_t memory[MOST + 2 * GUARD + 8], before[MOST + 2 * GUARD + 8];
@@ -107,7 +117,7 @@ static void guarded_call(const struct kind *kind, size_t input_len, size_t outpu
     for (turn = 0; turn < 2; turn++) {
         fill(memory, sizeof memory, 17 + 90 * turn);
         memcpy(before, memory, sizeof memory);
-        kind->call(in, input_len, out, output_len);
+        give(kind, in, input_len, place, out, output_len);
         if (memcmp(memory, before, (size_t)(out - memory)) != 0)
             fail(kind, "a byte before the output was written", input_len, output_len);
         if (memcmp(memory + end, before + end, sizeof memory - end) != 0)
@@ -128,10 +138,10 @@ static void guards(const struct kind *kind)
     size_t i, n;
 
     for (n = 0; n <= 400; n++)
-        guarded_call(kind, inputs[n % (sizeof inputs / sizeof inputs[0])], n);
+        guarded_call(kind, inputs[n % (sizeof inputs / sizeof inputs[0])], n % 3 * kind->rate + n % 2, n);
     for (i = 0; i < sizeof longer / sizeof longer[0]; i++) {
-        guarded_call(kind, 64, longer[i]);
-        guarded_call(kind, longer[i], 64);
+        guarded_call(kind, 64, 0, longer[i]);
+        guarded_call(kind, longer[i], longer[i], 64);
     }
 }
 
@@ -157,11 +167,41 @@ static void fences(const struct kind *kind)
     uint8_t *in = fenced_pages(&in_size), *out = fenced_pages(&out_size);
 
     for (n = 0; n <= 400; n++) {
-        kind->call(in + in_size - n, n, out + out_size - 32, 32);
-        kind->call(in + in_size - 32, 32, out + out_size - n, n);
-        kind->call(in + in_size - n, n, out + out_size - n, n);
+        give(kind, in + in_size - n, n, 0, out + out_size - 32, 32);
+        give(kind, in + in_size - 32, 32, n, out + out_size - n, n);
+        give(kind, in + in_size - n, n, 0, out + out_size - n, n);
     }
-    kind->call(in + in_size - MOST, MOST, out + out_size - MOST, MOST);
+    give(kind, in + in_size - MOST, MOST, 0, out + out_size - MOST, MOST);
+}
+
+/* Past the limit, also where place and length together are over 2^64: 15, and no byte is written. */
+static void refusals(const struct kind *kind)
+{
+    static uint8_t memory[KINDI_SHAKE_LIMIT + 1 + 2 * GUARD], before[sizeof memory];
+    static const size_t lengths[] = { 0, 1, 2, 32, KINDI_SHAKE_LIMIT, KINDI_SHAKE_LIMIT + 1 };
+    static const size_t places[] = { KINDI_SHAKE_LIMIT + 1, (size_t)1 << 32, (size_t)1 << 63, SIZE_MAX - KINDI_SHAKE_LIMIT,
+        SIZE_MAX - 31, SIZE_MAX - 1, SIZE_MAX };
+    size_t i, j, n = sizeof lengths / sizeof lengths[0];
+
+    fill(memory, sizeof memory, 5);
+    memcpy(before, memory, sizeof memory);
+    for (i = 0; i < n; i++) {
+        for (j = 0; j < sizeof places / sizeof places[0]; j++)
+            if (kind->call(before, 32, places[j], memory + GUARD, lengths[i]) != KINDI_PAST_LIMIT)
+                fail(kind, "not refused, far on", 32, lengths[i]);
+        if (lengths[i] <= KINDI_SHAKE_LIMIT
+            && kind->call(before, 32, KINDI_SHAKE_LIMIT - lengths[i] + 1, memory + GUARD, lengths[i]) != KINDI_PAST_LIMIT)
+            fail(kind, "not refused, one past the limit", 32, lengths[i]);
+    }
+    if (kind->call(before, 32, 0, memory + GUARD, KINDI_SHAKE_LIMIT + 1) != KINDI_PAST_LIMIT)
+        fail(kind, "not refused", 32, KINDI_SHAKE_LIMIT + 1);
+    if (memcmp(memory, before, sizeof memory) != 0)
+        fail(kind, "a refused call wrote", 32, 0);
+    for (i = 0; i < n - 1; i++)
+        give(kind, before, 32, KINDI_SHAKE_LIMIT - lengths[i], memory + GUARD, lengths[i]);
+    if (memcmp(memory, before, GUARD) != 0
+        || memcmp(memory + GUARD + KINDI_SHAKE_LIMIT, before + GUARD + KINDI_SHAKE_LIMIT, GUARD + 1) != 0)
+        fail(kind, "a byte outside the output was written", 32, KINDI_SHAKE_LIMIT);
 }
 
 int main(void)
@@ -174,6 +214,7 @@ int main(void)
         { "NULL with length 0", nulls },
         { "the bytes round the output, the input, one call twice", guards },
         { "slices that end at a page that nobody may touch", fences },
+        { "what is refused", refusals },
     };
     size_t k, p;
 

@@ -1,18 +1,14 @@
 #!/usr/bin/env python3
-"""The two SHAKE calls beside Python's hashlib, on random lengths and contents.
+"""The two SHAKE calls beside Python's hashlib, on random lengths, places and contents.
 
 usage: shake_random.py [SEED [CALLS]]
 """
 
-import ctypes
-import hashlib
-
+from shake import KINDS, LIMIT, PAST_LIMIT, call
 from support import Guarded, check, load_library, main, repeat
 
 SEED = 20150804
 CALLS = 20000
-
-KINDS = [("kindi_shake128", hashlib.shake_128, 168), ("kindi_shake256", hashlib.shake_256, 136)]
 
 
 def length(rng, rate):
@@ -27,6 +23,18 @@ def length(rng, rate):
     return rng.randint(0, 70000)
 
 
+def first_place(rng, rate):
+    """The start half of the time; else as far on as a length, round the limit, or anywhere."""
+    part = rng.random()
+    if part < 0.50:
+        return 0
+    if part < 0.97:
+        return length(rng, rate)
+    if part < 0.98:
+        return LIMIT - length(rng, rate)
+    return rng.randrange(2 ** rng.choice([21, 32, 63, 64]))
+
+
 def content(rng, size):
     if rng.random() < 0.05:
         return bytes([rng.choice([0x00, 0xFF, 0x1F, 0x80])]) * size
@@ -36,28 +44,24 @@ def content(rng, size):
 def one_call(rng, library):
     name, reference, rate = rng.choice(KINDS)
     message = content(rng, length(rng, rate))
-    wanted = length(rng, rate)
-    source = Guarded(len(message), rng.randrange(8), message)
+    wanted, place = length(rng, rate), first_place(rng, rate)
     result = Guarded(wanted, rng.randrange(8))
-    null = rng.random() < 0.5
-    getattr(library, name)(
-        None if null and not message else source.pointer(), ctypes.c_size_t(len(message)),
-        None if null and not wanted else result.pointer(), ctypes.c_size_t(wanted))
-    what = f"{name}, {len(message)} bytes of input, {wanted} of output"
+    before, refused = result.bytes(), place + wanted > LIMIT
+    status = call(library, name, message, place, result, rng.random() < 0.5, rng.randrange(8))
+    what = f"{name}, {len(message)} bytes of input, {wanted} of output from place {place} on"
+    check(status == (PAST_LIMIT if refused else 0), f"{what}: status {status}")
     found = result.bytes()
-    check(source.bytes() == message, f"{what}: the input was changed")
-    expected = reference(message).digest(wanted)
+    expected = before if refused else reference(message).digest(place + wanted)[place:]
     if found != expected:
         at = next(i for i in range(wanted) if found[i] != expected[i])
-        check(False, f"{what}: byte {at} is {found[at]:02x}, and hashlib has {expected[at]:02x}")
+        check(False, f"{what}: byte {at} is {found[at]:02x}, and should be {expected[at]:02x}")
+    return refused
 
 
 def test():
     library = load_library()
-    for name, _, _ in KINDS:
-        getattr(library, name).restype = None
     seed, answers = repeat(one_call, library, SEED, CALLS)
-    return f"{len(answers)} calls of SHAKE128 and SHAKE256 agree with hashlib (seed {seed})"
+    return f"{len(answers)} calls of SHAKE128 and SHAKE256 agree with hashlib, {sum(answers)} of them refused (seed {seed})"
 
 
 main(test)

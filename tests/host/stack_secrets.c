@@ -120,7 +120,8 @@ int main(void)
     uint8_t i;
 
     for (i = 0; i < COUNT(filled); i++)
-        kindi_shake256(&i, 1, filled[i].bytes, filled[i].len);
+        if (kindi_shake256(&i, 1, 0, filled[i].bytes, filled[i].len) != KINDI_OK)
+            fail("`kindi_shake256`", 0, "what the calls take was refused");
     make_stack();
     visit(set_calls, COUNT(set_calls), SETS, search);
     visit(&refused, 1, SETS, search);

@@ -54,6 +54,10 @@ ORDERS = {ROOT / README: "in this order: ", ROOT / SCHEME: "the first that fails
           HEADER: "which is not that of their numbers: "}
 
 
+# The refusal that is the only check of its calls, those of SHAKE; it stands last, and in no order of checks.
+ALONE = "15"
+
+
 def values(asked):
     """The header's numbers, each under the words that it is asked by."""
     BUILD.mkdir(parents=True, exist_ok=True)
@@ -121,11 +125,11 @@ def check_sets(lengths):
 def check_refusals():
     """Holds the tables of refusals and the order of the checks to the header; how many refusals there are."""
     numbers = [str(number) for name, number in defined_statuses() if name != "KINDI_OK"]
-    order = ", ".join(numbers)
+    order = ", ".join(number for number in numbers if number != ALONE)
     for document, first in OF_REFUSALS.items():
         # The refusals of linkcheck alone are none of the header.
         listed = [row[0] for row in table(document, first) if not row[1].startswith("`linkcheck`")]
-        check(listed == numbers, f"{document} has the refusals {', '.join(listed)}; the header {order}")
+        check(listed == numbers, f"{document} has the refusals {', '.join(listed)}; the header {', '.join(numbers)}")
     for path, before in ORDERS.items():
         text = re.sub(r"\s+(\* )?", " ", path.read_text())
         told = re.findall(rf"{before}(\d+(?:, \d+)*)", text)

@@ -1,7 +1,7 @@
 /*
- * Calls SHAKE on an input that memcheck takes for undefined: it then reports every branch and every
- * address that depends on the input. With an argument the program itself branches on the output, which
- * memcheck must report, so that a silent run means something.
+ * Calls SHAKE, from the start and from places further on, on an input that memcheck takes for undefined: it
+ * then reports every branch and every address that depends on the input. With an argument the program itself
+ * branches on the output, which memcheck must report, so that a silent run means something.
  */
 #include <stdio.h>
 #include <string.h>
@@ -12,11 +12,15 @@
 
 static uint8_t input[700], output[700], seen[700];
 
-static int one_call(void (*call)(const uint8_t *, size_t, uint8_t *, size_t), size_t in, size_t out)
+static int one_call(uint32_t (*call)(const uint8_t *, size_t, size_t, uint8_t *, size_t), size_t in, size_t place,
+    size_t out)
 {
     memset(output, 0, sizeof output);
     VALGRIND_MAKE_MEM_UNDEFINED(input, sizeof input);
-    call(input, in, output, out);
+    if (call(input, in, place, output, out) != KINDI_OK) {
+        printf("FAILED: refused\n");
+        return 1;
+    }
     /* The output has to depend on the input, or memcheck lost track of it. */
     memset(seen, 0, sizeof seen);
     if (VALGRIND_GET_VBITS(output, seen, out) != 1 || seen[0] == 0 || seen[out - 1] == 0) {
@@ -37,8 +41,10 @@ int main(int argc, char **argv)
         return 1;
     }
     for (i = 0; i < n; i++)
-        if (one_call(kindi_shake128, lengths[i], lengths[n - 1 - i])
-            || one_call(kindi_shake256, lengths[i], lengths[n - 1 - i]))
+        if (one_call(kindi_shake128, lengths[i], 0, lengths[n - 1 - i])
+            || one_call(kindi_shake256, lengths[i], 0, lengths[n - 1 - i])
+            || one_call(kindi_shake128, lengths[i], lengths[i], lengths[n - 1 - i])
+            || one_call(kindi_shake256, lengths[i], lengths[i], lengths[n - 1 - i]))
             return 1;
     if (argc > 1 && output[0] > 127)
         printf("the first bit of the output is set\n");

@@ -6,8 +6,8 @@ usage: shake_cases.py          write crates/shake_vectors/stdin and crates/shake
        shake_cases.py --check  only say whether the two files are what would be written
 
 stdin has one case after another: a byte that is 1 for SHAKE128 and 2 for SHAKE256, the input's length
-and the output's length as two bytes each, low byte first, and the input's bytes. stdout has a line for
-each case: the output in lower-case hexadecimal.
+and the output's length as two bytes each, the place of the output's first byte as four bytes, all low
+byte first, and the input's bytes. stdout has a line for each case: the output in lower-case hexadecimal.
 """
 
 import hashlib
@@ -34,7 +34,20 @@ NIST = [
 
 
 def cases():
-    """Every case, as its kind, its input and its output's length."""
+    """Every case, as its kind, its input, its place and its output's length."""
+    for kind, message, size in from_start():
+        yield kind, message, 0, size
+
+    # Places at the start, round whole blocks of either rate, and many blocks on.
+    blocks = {r * n + d for r in RATES.values() for n in (1, 2) for d in (-1, 0, 1)}
+    for kind, rate in RATES.items():
+        for place in (0, 1, *sorted(blocks), 100 * rate - 1, 100 * rate, 65535, 65536, 1048576 - 2 * rate - 1):
+            for size in (0, 1, rate - 1, rate, rate + 1, 2 * rate + 1):
+                yield kind, content(rate + 5, kind + 14), place, size
+
+
+def from_start():
+    """The cases at place 0, as their kind, their input and their output's length."""
     for kind, message, first in NIST:
         if HASHES[kind](message).hexdigest(32) != first:
             sys.exit("shake_cases.py: hashlib does not give NIST's example value")
@@ -70,11 +83,11 @@ def cases():
 def make():
     """The two files' bytes."""
     stdin, stdout = bytearray(), bytearray()
-    for kind, message, size in cases():
+    for kind, message, place, size in cases():
         if len(message) > MOST_INPUT or size > MOST_OUTPUT:
             sys.exit("shake_cases.py: a case is larger than the program's buffers")
-        stdin += struct.pack("<BHH", kind, len(message), size) + message
-        stdout += HASHES[kind](message).hexdigest(size).encode() + b"\n"
+        stdin += struct.pack("<BHHI", kind, len(message), size, place) + message
+        stdout += HASHES[kind](message).digest(place + size)[place:].hex().encode() + b"\n"
     return bytes(stdin), bytes(stdout)
 
 

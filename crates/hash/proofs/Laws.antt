@@ -1,11 +1,11 @@
 -- What the layers above cite: the sponge gives SHAKE of what it took, in pieces as at once, and the laws of SHAKE's
 -- output. Assumes nothing.
 use mathlib.Core.Path.{_≡_, sym, ap, _∙_, subst}
-use mathlib.Core.List.{List, _++_}
+use mathlib.Core.List.{List, _++_, append-assoc}
 use Prim.Native.Nat.{ℕ, _+_, _-_, _/_, _%_, _≤_, _<_}
 use native.Mathlib.Nat.{zero-add}
 use native.Mathlib.Omega.{arith}
-use lib.ListN.{length, getD, take, drop, replicate}
+use lib.ListN.{length, take, drop, replicate}
 use lib.Seq.{ext-getD, take-at, drop-at}
 use Rattle.hash.proofs.Blocks.{start, finished-is, outputByte, squeezed-at}
 use Rattle.keccak.proofs.Entries.{tabulate-at, tabulate-add, length-tabulate}
@@ -39,15 +39,36 @@ pub length-shake : (r : ℕ) (m : List ℕ) (n : ℕ) → length (shake r m n) �
 unfolding shake
 length-shake r m n = length-tabulate n (shakeByte r m)
 
--- Byte j of the output of n bytes.
-pub shake-at : (r : ℕ) (m : List ℕ) (n j : ℕ) → j < n → getD (shake r m n) j 0 ≡ shakeByte r m j
-unfolding shake
-shake-at r m n j h = tabulate-at n (shakeByte r m) j 0 h
-
 -- An output is its first i bytes, then those from place i on.
 pub shake-split : (r : ℕ) (m : List ℕ) (i n : ℕ) → shake r m (i + n) ≡ shake r m i ++ shakeFrom r m i n
 unfolding shake shakeFrom
 shake-split r m i n = tabulate-add i n (shakeByte r m)
+
+-- From a place on, the output is the whole without its first bytes.
+pub shake-from-drop : (r : ℕ) (m : List ℕ) (i n : ℕ) → drop i (shake r m (i + n)) ≡ shakeFrom r m i n
+shake-from-drop r m i n =
+    ap (drop i) (shake-split r m i n) ∙ drop-at (shake r m i) (shakeFrom r m i n) i (length-shake r m i)
+
+-- From place 0 on, it is the whole.
+pub shake-from-start : (r : ℕ) (m : List ℕ) (n : ℕ) → shakeFrom r m 0 n ≡ shake r m n
+shake-from-start r m n = sym (shake-from-drop r m 0 n) ∙ ap (shake r m) (zero-add n)
+
+-- From place i on, then from place i + n on, is from place i on at once.
+pub shake-from-add : (r : ℕ) (m : List ℕ) (i n k : ℕ) → shakeFrom r m i (n + k) ≡ shakeFrom r m i n ++ shakeFrom r m (i + n) k
+shake-from-add r m i n k =
+    let first = shake r m i in
+    let both = shakeFrom r m i n ++ shakeFrom r m (i + n) k in
+    let sum : i + (n + k) ≡ i + n + k = omega arith in
+    let whole : shake r m (i + (n + k)) ≡ first ++ both =
+    ap (shake r m) sum ∙ shake-split r m (i + n) k ∙ ap (λ (l : List ℕ). l ++ shakeFrom r m (i + n) k) (shake-split r m i n)
+    ∙ append-assoc first (shakeFrom r m i n) (shakeFrom r m (i + n) k)
+    in
+    sym (shake-from-drop r m i (n + k)) ∙ ap (drop i) whole ∙ drop-at first both i (length-shake r m i)
+
+-- From any place on, the output has as many bytes as are asked for.
+pub length-shake-from : (r : ℕ) (m : List ℕ) (i n : ℕ) → length (shakeFrom r m i n) ≡ n
+unfolding shakeFrom
+length-shake-from r m i n = length-tabulate n _
 
 -- The output of a longer request begins with that of a shorter one.
 pub shake-prefix : (r : ℕ) (m : List ℕ) (n k : ℕ) → n ≤ k → take n (shake r m k) ≡ shake r m n
@@ -62,8 +83,7 @@ pub squeezed-from : (r : ℕ) (m : List ℕ) (i n : ℕ) → 0 < r → r ≤ 200
 squeezed-from r m i n pos fits =
     let s = finished (absorbed (fresh r) m) in
     sym (drop-at (squeezed s i) (squeezed (advanced s i) n) i (length-squeezed s i)) ∙ ap (drop i) (sym (squeezed-append s i n))
-    ∙ ap (drop i) (squeezed-shake r m (i + n) pos fits ∙ shake-split r m i n)
-    ∙ drop-at (shake r m i) (shakeFrom r m i n) i (length-shake r m i)
+    ∙ ap (drop i) (squeezed-shake r m (i + n) pos fits) ∙ shake-from-drop r m i n
 
 -- Each byte of the output is below 256.
 pub shakeByte-below : (r : ℕ) (m : List ℕ) (j : ℕ) → shakeByte r m j < 256

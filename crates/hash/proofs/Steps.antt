@@ -249,13 +249,17 @@ part-absorbed s n ys xs e h wrote =
     ap (λ (l : List ℕ). sponge l (k + length xs) (s .rate)) (ap (λ (m : ℕ). patched k (m - k) ys b) (sym e) ∙ whole)
     ∙ sym (absorbed-part b k (s .rate) xs h)
 
+-- A part that was passed over.
+pub part-skipped : (s : Sponge) (n : ℕ) → s .at + n ≤ s .rate → sponge (s .bytes) (s .at + n) (s .rate) ≡ advanced s n
+part-skipped s n h = sym (advanced-part (s .bytes) (s .at) (s .rate) n h)
+
 -- A part that was read from the string where the sponge stands.
 pub part-squeezed : (s : Sponge) (n : ℕ) (ys : List ℕ) → s .at + n ≤ s .rate → s .at + n ≤ length (s .bytes)
     → ys ≡ take (s .at + n - s .at) (drop (s .at) (s .bytes)) → Squeezed s n (sponge (s .bytes) (s .at + n) (s .rate)) ys
 part-squeezed s n ys h l is =
     let same : s .at + n - s .at ≡ n = omega arith in
     record {
-      sponge = sym (advanced-part (s .bytes) (s .at) (s .rate) n h);
+      sponge = part-skipped s n h;
       bytes = is ∙ ap (λ (k : ℕ). take k (drop (s .at) (s .bytes))) same ∙ sym (squeezed-part (s .bytes) (s .at) (s .rate) n h l);
     }
 
@@ -292,52 +296,74 @@ module _ {s₀ : Sponge} {input : List ℕ} {done : ℕ} {s : Sponge} (h : Absor
               ∙ absorbed-append s₀ (take done input) part ∙ ap (absorbed s₀) (sym (take-add done k input));
         }
 
--- `squeeze`: the output up to `done` is what the sponge gives first, and the sponge has advanced by as much.
-pub record Squeezing (s₀ : Sponge) (output₀ : List ℕ) (done : ℕ) (s : Sponge) (output : List ℕ) : Type 0 where
+-- `skip` and `squeeze`: the sponge has advanced by `done` bytes of n.
+pub record Advancing (s₀ : Sponge) (n done : ℕ) (s : Sponge) : Type 0 where
   pub begun : Sound s₀
-  pub within : done ≤ length output₀
+  pub within : done ≤ n
+  pub is : s ≡ advanced s₀ done
+
+pub advancing-begun : (s : Sponge) (n : ℕ) → Sound s → Advancing s n 0 s
+unfolding advanced
+advancing-begun s n h = record { begun = h; within = omega arith; is = refl }
+
+module _ {s₀ : Sponge} {n done : ℕ} {s : Sponge} (h : Advancing s₀ n done s) where
+  advancing-sound : Sound s
+  advancing-sound = subst Sound (sym (h .is)) (sound-advanced s₀ done (h .begun))
+
+  module _ {t : Sponge} (is-t : t ≡ ready s) where
+    pub advancing-ready : Ready s t
+    advancing-ready = is-ready-as s t advancing-sound is-t
+
+    -- The next k bytes.
+    pub advancing-more : (k : ℕ) {u : Sponge} → 0 < k → done + k ≤ n → u ≡ advanced t k → Advancing s₀ n (done + k) u
+    advancing-more k some room is-u =
+        record {
+          begun = h .begun;
+          within = room;
+          is =
+              is-u ∙ ap (λ (v : Sponge). advanced v k) is-t ∙ sym (advanced-ready s k advancing-sound some)
+              ∙ ap (λ (v : Sponge). advanced v k) (h .is) ∙ sym (advanced-add s₀ done k);
+        }
+
+  -- After the last turn.
+  pub advancing-all : n ≤ done → s ≡ advanced s₀ n
+  advancing-all last =
+      let all : done ≡ n = omega (arith, h .within) in
+      h .is ∙ ap (advanced s₀) all
+
+-- `squeeze`: what is more, the output up to `done` is what the sponge gives first.
+pub record Squeezing (s₀ : Sponge) (output₀ : List ℕ) (done : ℕ) (s : Sponge) (output : List ℕ) : Type 0 where
+  pub sponge : Advancing s₀ (length output₀) done s
   pub long : length output ≡ length output₀
-  pub sponge : s ≡ advanced s₀ done
   pub bytes : take done output ≡ squeezed s₀ done
 
 module _ {s₀ : Sponge} {output₀ : List ℕ} {done : ℕ} {s : Sponge} {output : List ℕ} (h : Squeezing s₀ output₀ done s output) where
-  squeezing-sound : Sound s
-  squeezing-sound = subst Sound (sym (h .sponge)) (sound-advanced s₀ done (h .begun))
-
-  module _ {t : Sponge} (is-t : t ≡ ready s) where
-    pub squeezing-ready : Ready s t
-    squeezing-ready = is-ready-as s t squeezing-sound is-t
-
-    -- The next k bytes.
-    pub squeezing-more : (k : ℕ) {u : Sponge} {ys : List ℕ} → 0 < k → done + k ≤ length output₀
-        → Squeezed t (length (take (done + k - done) (drop done output))) u ys
-        → Squeezing s₀ output₀ (done + k) u (patched done (done + k - done) ys output)
-    squeezing-more k {u} {ys} some room gave =
-        let step : done + k - done ≡ k = omega arith in
-        let inside : done + k ≤ length output = omega (arith, h .long) in
-        let size : length (take (done + k - done) (drop done output)) ≡ k = simp (length-take, length-drop) (omega arith) in
-        let long : length ys ≡ k = ap length (gave .bytes) ∙ length-squeezed t _ ∙ size in
-        let next : ys ≡ squeezed (advanced s₀ done) k =
-        gave .bytes ∙ ap (squeezed t) size ∙ ap (λ (v : Sponge). squeezed v k) is-t ∙ sym (squeezed-ready s k squeezing-sound)
-        ∙ ap (λ (v : Sponge). squeezed v k) (h .sponge)
-        in
-        rw step
-        (record {
-          begun = h .begun;
-          within = room;
-          long = length-patched done k ys output long inside ∙ h .long;
-          sponge =
-              gave .sponge ∙ ap (advanced t) size ∙ ap (λ (v : Sponge). advanced v k) is-t ∙ sym (advanced-ready s k squeezing-sound some)
-              ∙ ap (λ (v : Sponge). advanced v k) (h .sponge) ∙ sym (advanced-add s₀ done k);
-          bytes = take-patched done k ys output long inside ∙ ap₂ _++_ (h .bytes) next ∙ sym (squeezed-append s₀ done k);
-        })
+  -- The next k bytes.
+  pub squeezing-more : {t : Sponge} (k : ℕ) {u : Sponge} {ys : List ℕ} → t ≡ ready s → 0 < k → done + k ≤ length output₀
+      → Squeezed t (length (take (done + k - done) (drop done output))) u ys
+      → Squeezing s₀ output₀ (done + k) u (patched done (done + k - done) ys output)
+  squeezing-more {t} k {u} {ys} is-t some room gave =
+      let step : done + k - done ≡ k = omega arith in
+      let inside : done + k ≤ length output = omega (arith, h .long) in
+      let size : length (take (done + k - done) (drop done output)) ≡ k = simp (length-take, length-drop) (omega arith) in
+      let long : length ys ≡ k = ap length (gave .bytes) ∙ length-squeezed t _ ∙ size in
+      let next : ys ≡ squeezed (advanced s₀ done) k =
+      gave .bytes ∙ ap (squeezed t) size ∙ ap (λ (v : Sponge). squeezed v k) is-t ∙ sym (squeezed-ready s k (advancing-sound (h .sponge)))
+      ∙ ap (λ (v : Sponge). squeezed v k) (h .sponge .is)
+      in
+      rw step
+      (record {
+        sponge = advancing-more (h .sponge) is-t k some room (gave .sponge ∙ ap (advanced t) size);
+        long = length-patched done k ys output long inside ∙ h .long;
+        bytes = take-patched done k ys output long inside ∙ ap₂ _++_ (h .bytes) next ∙ sym (squeezed-append s₀ done k);
+      })
 
   -- After the last turn.
   pub squeezing-all : length output₀ ≤ done → Squeezed s₀ (length output₀) s output
   squeezing-all last =
-      let all : done ≡ length output₀ = omega (arith, h .within) in
+      let all : done ≡ length output₀ = omega (arith, h .sponge .within) in
       let full : length output ≤ done = omega (arith, h .long) in
       record {
-        sponge = h .sponge ∙ ap (advanced s₀) all;
+        sponge = advancing-all (h .sponge) last;
         bytes = sym (take-all done output full) ∙ h .bytes ∙ ap (squeezed s₀) all;
       }

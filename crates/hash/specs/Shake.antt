@@ -1,5 +1,6 @@
 -- SHAKE128 and SHAKE256 as FIPS 202, sections 4, 5.1 and 6.2, define them, for messages and outputs of whole bytes. A string is
--- a list of bytes, and bit i of byte j is the standard's bit 8 j + i (section B.1). Rests on `Strings` of `keccak`.
+-- a list of bytes, and bit i of byte j is the standard's bit 8 j + i (section B.1). SHAKE128 has a capacity of 256 bits and
+-- SHAKE256 one of 512, so of the string's 200 bytes their rates are 168 and 136. Rests on `Strings` of `keccak`.
 use mathlib.Core.List.{List, [], _∷_, _++_}
 use Prim.Native.Nat.{ℕ, zero, suc, _+_, _-_, _*_, _/_, _%_}
 use lib.ListN.{length, getD, take, drop, replicate}
@@ -43,11 +44,3 @@ shakeFrom r m i n = tabulate n (λ j. shakeByte r m (i + j))
 -- The first n bytes of SHAKE at a rate of r bytes.
 unfoldable pub shake : ℕ → List ℕ → ℕ → List ℕ
 shake r m n = tabulate n (shakeByte r m)
-
--- Section 6.2: SHAKE128, whose capacity is 256 bits.
-abbrev pub shake128 : List ℕ → ℕ → List ℕ
-shake128 m n = shake 168 m n
-
--- Section 6.2: SHAKE256, whose capacity is 512 bits.
-abbrev pub shake256 : List ℕ → ℕ → List ℕ
-shake256 m n = shake 136 m n

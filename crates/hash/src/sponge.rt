@@ -1,9 +1,9 @@
 // The sponge: a value that absorbs input in pieces of any length and, once its input is complete,
-// squeezes output on from where it stopped.
+// squeezes output on from where it stopped, or skips it.
 ghost use mathlib.Core.Path.{_≡_};
 ghost use Prim.Native.Nat.{_+_, _≤_, _<_, min};
 ghost use lib.ListN.{length};
-ghost use Rattle.hash.specs.Stream.{Sound, Squeezed, fresh, permuted, ready as Stream·ready, absorbed, finished};
+ghost use Rattle.hash.specs.Stream.{Sound, Squeezed, fresh, permuted, ready as Stream·ready, absorbed, finished, advanced};
 use keccak::strings::copy;
 use keccak::strings::xor_into;
 
@@ -136,6 +136,37 @@ impl Sponge {
             let rest = t.squeeze_part(&mut output[done..done + k]);
             s = rest;
             done += k;
+        }
+        s
+    }
+
+    // Passes over a part that the block still has.
+    fn skip_part(self, n: usize) -> Self
+        requires { ⌜ self .at + n ≤ self .rate ⌝ }
+        ensures { λ r. ⌜ r ≡ advanced self n ⌝ }
+    {
+        let bytes = self.bytes;
+        let end = self.at + n;
+        Self {
+            bytes,
+            at: end,
+            rate: self.rate,
+        }
+    }
+
+    // Passes over the next n bytes, which are written nowhere.
+    pub fn skip(self, n: usize) -> Self
+        requires { ⌜ Sound self ⌝ }
+        ensures { λ r. ⌜ r ≡ advanced self n ⌝ }
+    {
+        let mut s = self;
+        let mut skipped = 0;
+        while skipped < n {
+            let t = s.ready();
+            let k = least(t.rate - t.at, n - skipped);
+            let next = t.skip_part(k);
+            s = next;
+            skipped += k;
         }
         s
     }

@@ -10,9 +10,9 @@ use lib.ListN.{length, getD, length-append, List·getD-append, List·getD-eq-def
 use lib.Seq.{getD-append-add, ext-getD}
 use lib.Pow.{pow-pos}
 use Rattle.keccak.specs.Lists.{tabulate, value, digits}
-use Rattle.hash.specs.Shake.{shake}
+use Rattle.hash.specs.Shake.{shakeByte, shakeFrom, shake}
 use Rattle.keccak.proofs.Entries.{tabulate-at, length-tabulate}
-use Rattle.hash.proofs.Laws.{length-shake, shake-at, shakeByte-below}
+use Rattle.hash.proofs.Laws.{shake-from-start, shakeByte-below}
 use Rattle.keccak.proofs.Parts.{length-digits}
 use Rattle.bits.specs.Bits.{Below, bytesFor, pack, unpack}
 use Rattle.bits.proofs.Digits.{digits-at, digits-low, digits-tabulate, value-append, value-below, first-digit, length-unpack, unpack-pack}
@@ -158,8 +158,11 @@ pack-below w cs =
     rw (digits-tabulate 8 m v)
     (tabulate-below 256 m (λ i. v / 2 ^ (8 * i) % 2 ^ 8) (pow-pos 8) (λ i h. mod-lt (v / 2 ^ (8 * i)) (pow-pos 8)))
 
--- So is SHAKE's output.
+-- So is SHAKE's output from any place on.
+pub shake-from-below : (r : ℕ) (m : List ℕ) (i n : ℕ) → Below 256 (shakeFrom r m i n)
+unfolding shakeFrom
+shake-from-below r m i n = tabulate-below 256 n (λ j. shakeByte r m (i + j)) (pow-pos 8) (λ j h. shakeByte-below r m (i + j))
+
+-- So is the whole.
 pub shake-below : (r : ℕ) (m : List ℕ) (n : ℕ) → Below 256 (shake r m n)
-shake-below r m n =
-    entries-below 256 (shake r m n) (pow-pos 8)
-    (λ i h. rw (shake-at r m n i (rw (length-shake r m n) at h)) (shakeByte-below r m i))
+shake-below r m n = rw (← shake-from-start r m n) (shake-from-below r m 0 n)

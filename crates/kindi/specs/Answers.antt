@@ -1,12 +1,14 @@
 -- Answers (01, "When a call is turned down"): a refusal with its number, or success with values; each call as a chain of checks
 -- in the order 1, 13, 2, 3, 4, 14, 5, 6, 7, 8, 9, which is 01's with 02's numbers at their places, over any parameters. `room` says
--- that every output has its exact length and the work area is long enough. Rests on the definitions of the scheme.
+-- that every output has its exact length and the work area is long enough. 15 stands alone. Rests on the definitions of the
+-- scheme.
 use mathlib.Core.Bool.{Bool, true, false, cond, not, _&&_, _||_}
 use mathlib.Core.List.{List, [], _∷_}
-use Prim.Native.Nat.{ℕ, _*_, _/_, _%_}
-use lib.Dec.{eqb, leb}
+use Prim.Native.Nat.{ℕ, _+_, _*_, _/_, _%_}
+use lib.Dec.{eqb, leb, ltb}
 use lib.ListN.{length, take, drop}
 use Rattle.keccak.specs.Lists.{tabulate}
+use Rattle.hash.specs.Shake.{shakeFrom}
 use Rattle.ring.specs.Integers.{largest}
 use Rattle.kindi.specs.declared.Params.{Params}
 use Rattle.kindi.specs.Params.{publicLength, secretLength, ciphertextLength, paddedLength}
@@ -201,3 +203,7 @@ choose P room sk message list =
     (refuseIf (not (agrees P sk)) 8
     (refuseIf (not (some (clearPlaces P sk message list))) 9
     (answered (clearPlaces P sk message list)))))))
+
+-- SHAKE from a place (02, No. 2): refusal 15, the only one.
+unfoldable pub shakeBytes : ℕ → List ℕ → ℕ → ℕ → Answer (List ℕ)
+shakeBytes rate input place long = refuseIf (ltb 1048576 (place + long)) 15 (answered (shakeFrom rate input place long))

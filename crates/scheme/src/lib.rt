@@ -1,27 +1,25 @@
 // The C interface of the KINDI library. Each call answers by its arguments alone and asks nothing of
 // them: no call has a `requires`.
-ghost use mathlib.Core.Path.{_≡_};
-ghost use lib.ListN.{length};
-ghost use Rattle.hash.specs.Shake.{shake128, shake256};
+ghost use Rattle.calls.specs.Exits.{ShakeExit};
 ghost use Rattle.encryption_calls.specs.Exits.{KeygenExit, EncryptExit, EncapsExit};
 ghost use Rattle.recipients.specs.Exits.{EncryptEachExit};
 ghost use Rattle.decryption_calls.specs.Exits.{DecryptExit, DecapsExit};
 ghost use Rattle.noise_calls.specs.Exits.{NoiseExit, ChooseExit};
 
-// Fills output with the first bytes of SHAKE128 of input.
+// Fills output with the bytes of SHAKE128 of input from a place on.
 #[no_mangle]
-pub extern "C" fn kindi_shake128(input: &[u8], output: &mut [u8])
-    ensures { λ _. ⌜ now (output .exit) ≡ shake128 (now (input .entry)) (length (now (output .entry))) ⌝ }
+pub extern "C" fn kindi_shake128(input: &[u8], place: usize, output: &mut [u8]) -> u32
+    ensures { λ r. ⌜ ShakeExit 168 (now (input .entry)) place (now (output .entry)) r (now (output .exit)) ⌝ }
 {
-    hash::shake128(input, output)
+    calls::shake::shake128(input, place, output)
 }
 
-// Fills output with the first bytes of SHAKE256 of input.
+// Fills output with the bytes of SHAKE256 of input from a place on.
 #[no_mangle]
-pub extern "C" fn kindi_shake256(input: &[u8], output: &mut [u8])
-    ensures { λ _. ⌜ now (output .exit) ≡ shake256 (now (input .entry)) (length (now (output .entry))) ⌝ }
+pub extern "C" fn kindi_shake256(input: &[u8], place: usize, output: &mut [u8]) -> u32
+    ensures { λ r. ⌜ ShakeExit 136 (now (input .entry)) place (now (output .entry)) r (now (output .exit)) ⌝ }
 {
-    hash::shake256(input, output)
+    calls::shake::shake256(input, place, output)
 }
 
 // Makes a public and a secret key from three seeds.

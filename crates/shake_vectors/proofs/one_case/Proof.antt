@@ -39,6 +39,21 @@ pair-requires-2 c κs = search needs
 cast-m : tie.Need-cast-m
 cast-m c = search needs
 
+array-read-number : tie.Need-array-read-number
+array-read-number c = search needs
+
+array-read-number-2 : tie.Need-array-read-number-2
+array-read-number-2 c = search needs
+
+array-read-number-3 : tie.Need-array-read-number-3
+array-read-number-3 c = search needs
+
+array-read-number-4 : tie.Need-array-read-number-4
+array-read-number-4 c = search needs
+
+number-requires : tie.Need-number-requires
+number-requires c κs = search needs
+
 mul-end : tie.Need-mul-end
 mul-end c = search needs
 
@@ -120,6 +135,11 @@ one-case-spec =
     array-read-pair-4
     pair-requires-2
     cast-m
+    array-read-number
+    array-read-number-2
+    array-read-number-3
+    array-read-number-4
+    number-requires
     mul-end
     add-end
     returns-2

@@ -7,8 +7,8 @@ use native.Mathlib.Omega.{arith}
 use lib.ListN.{length, length-take, length-drop}
 use borrow.Author.Needs.{needs}
 use Rattle.hash.proofs.sponge.Sponge.squeeze.Statement.{statement}
-use Rattle.hash.specs.Stream.{squeezed, advanced}
-use Rattle.hash.proofs.Steps.{Squeezing, squeezing-ready, squeezing-more, squeezing-all}
+use Rattle.hash.specs.Stream.{squeezed}
+use Rattle.hash.proofs.Steps.{Squeezing, advancing-begun, advancing-ready, squeezing-more, squeezing-all}
 use Rattle.hash.proofs.sponge.Sponge.squeeze.Tie as tie
 
 abbrev Inv-loop : tie.InvT-loop
@@ -25,10 +25,10 @@ abbrev After-ready : Type 0
 After-ready = tie.After-ready Inv-loop μ-loop
 
 loop-holds : tie.Need-loop-holds Inv-loop μ-loop
-unfolding advanced squeezed
+unfolding squeezed
 loop-holds c =
     let start : tie.Start Inv-loop μ-loop = search in
-    record { begun = start .pre; within = omega arith; long = refl; sponge = refl; bytes = refl }
+    record { sponge = advancing-begun _ _ (start .pre); long = refl; bytes = refl }
 
 ready-requires : tie.Need-ready-requires Inv-loop μ-loop
 ready-requires c κs = tt
@@ -37,7 +37,7 @@ sub-least : tie.Need-sub-least Inv-loop μ-loop
 sub-least c =
     let turn : Turn = search in
     let made : After-ready = search in
-    let t = squeezing-ready (turn .loop .inv) (made .ready .ensures) in
+    let t = advancing-ready (turn .loop .inv .sponge) (made .ready .ensures) in
     omega (arith, t)
 
 sub-least-2 : tie.Need-sub-least-2 Inv-loop μ-loop
@@ -63,7 +63,7 @@ squeeze-part-requires c κs =
     let turn : Turn = search in
     let made : After-ready = search in
     let least : tie.After-least Inv-loop μ-loop = search in
-    let t = squeezing-ready (turn .loop .inv) (made .ready .ensures) in
+    let t = advancing-ready (turn .loop .inv .sponge) (made .ready .ensures) in
     simp (length-take, length-drop) (omega (arith, t, least .least .ensures))
 
 add-done : tie.Need-add-done Inv-loop μ-loop
@@ -73,7 +73,7 @@ loop-less : tie.Need-loop-less Inv-loop μ-loop
 loop-less c =
     let turn : Turn = search in
     let made : After-ready = search in
-    let t = squeezing-ready (turn .loop .inv) (made .ready .ensures) in
+    let t = advancing-ready (turn .loop .inv .sponge) (made .ready .ensures) in
     omega (arith, t)
 
 loop-again : tie.Need-loop-again Inv-loop μ-loop
@@ -82,8 +82,8 @@ loop-again c =
     let made : After-ready = search in
     let least : tie.After-least Inv-loop μ-loop = search in
     let gave : tie.After-squeeze-part Inv-loop μ-loop = search in
-    let t = squeezing-ready (turn .loop .inv) (made .ready .ensures) in
-    squeezing-more (turn .loop .inv) (made .ready .ensures) (least .least .result) (omega (arith, t .room)) (omega arith)
+    let t = advancing-ready (turn .loop .inv .sponge) (made .ready .ensures) in
+    squeezing-more (turn .loop .inv) (least .least .result) (made .ready .ensures) (omega (arith, t .room)) (omega arith)
     (gave .squeeze-part .ensures)
 
 same-length : tie.Need-same-length Inv-loop μ-loop

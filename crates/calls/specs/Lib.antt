@@ -1,0 +1,2 @@
+-- What the contracts of `calls` say.
+pub mod Exits
