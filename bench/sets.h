@@ -7,6 +7,8 @@
 
 #include <stddef.h>
 
+#include "kindi.h"
+
 #define SETS 4
 
 /* The parameter sets in order; padded is a padded message, so a message has at most one byte less. */
@@ -26,7 +28,12 @@ static const struct lengths {
 #define MOST_SECRET_KEY 2496
 #define MOST_CIPHERTEXT 3328
 #define MOST_PADDED 576
-#define MOST_WORK 9280
+#define MOST_WORK 1792
+
+#if KINDI_MOST_WORK_LEN(1) > MOST_WORK || KINDI_MOST_WORK_LEN(2) > MOST_WORK || KINDI_MOST_WORK_LEN(3) > MOST_WORK \
+    || KINDI_MOST_WORK_LEN(4) > MOST_WORK
+#error "the work area is too short"
+#endif
 
 /* How many coins the benchmark chooses from: as many as there may be. */
 #define LIST 8

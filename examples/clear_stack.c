@@ -16,7 +16,7 @@ static uint8_t coins[KINDI_COINS_LEN(SET)], ciphertext[KINDI_CIPHERTEXT_LEN(SET)
 static uint8_t key[KINDI_KEY_LEN(SET)], oven_key[KINDI_KEY_LEN(SET)];
 static uint8_t message[KINDI_MESSAGE_MAX_LEN(SET)], message_coins[KINDI_COINS_LEN(SET)];
 static size_t message_len;
-static uint8_t work[KINDI_DECRYPT_WORK_LEN(SET)];
+static uint8_t work[KINDI_MOST_WORK_LEN(SET)];
 
 static uint32_t make_keys(void)
 {

@@ -13,12 +13,8 @@ static uint8_t coins[KINDI_COINS_LEN(SET)], ciphertext[KINDI_CIPHERTEXT_LEN(SET)
 static uint8_t key[KINDI_KEY_LEN(SET)], oven_key[KINDI_KEY_LEN(SET)];
 static uint8_t message[KINDI_MESSAGE_MAX_LEN(SET)], message_coins[KINDI_COINS_LEN(SET)];
 
-/* One area serves all calls, one after another, where it is as long as the longest asks for. */
-static uint8_t work[KINDI_NOISE_WORK_LEN(SET)];
-
-#if KINDI_KEYGEN_WORK_LEN(SET) > KINDI_NOISE_WORK_LEN(SET) || KINDI_DECRYPT_WORK_LEN(SET) > KINDI_NOISE_WORK_LEN(SET)
-#error "the work area is too short"
-#endif
+/* One area serves all calls, one after another. */
+static uint8_t work[KINDI_MOST_WORK_LEN(SET)];
 
 static int make_keys(void)
 {

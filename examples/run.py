@@ -18,7 +18,7 @@ PROGRAMS = ["shake_vectors", "ring_vectors", "linkcheck"]
 
 # The C examples, and what each shows.
 SHOWN = {
-    "shake": "SHAKE128 and SHAKE256 of a text",
+    "shake": "SHAKE128 and SHAKE256 of a text, from its start and from a place on",
     "programme": "keys, a shared key and a programme come back, an altered copy is refused",
     "tagged": "a programme with a tag: of its ciphertext altered in each single bit none is taken",
     "clear_stack": "after a call the stack is cleared of what it left",

@@ -17,13 +17,8 @@ static uint8_t parts[OVENS][KINDI_CIPHERTEXT_LEN(SET)], parts_before[OVENS][KIND
 static uint8_t message[KINDI_MESSAGE_MAX_LEN(SET)], message_coins[KINDI_COINS_LEN(SET)];
 static size_t message_len;
 
-/* The area of the one call does for any number of ovens, and for the other calls. */
-static uint8_t work[KINDI_ENCRYPT_EACH_WORK_LEN(SET)];
-
-#if KINDI_KEYGEN_WORK_LEN(SET) > KINDI_ENCRYPT_EACH_WORK_LEN(SET) \
-    || KINDI_DECRYPT_WORK_LEN(SET) > KINDI_ENCRYPT_EACH_WORK_LEN(SET)
-#error "the work area is too short"
-#endif
+/* One area does for any number of ovens, and for all calls. */
+static uint8_t work[KINDI_MOST_WORK_LEN(SET)];
 
 /* An oven and what it does, until the next is named. */
 static const char *named(int oven, const char *what)

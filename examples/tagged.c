@@ -33,12 +33,7 @@
 
 /* Shared by the three functions that follow, so one call at a time. They hold secrets: a product wipes them after use. */
 static uint8_t message[KINDI_MESSAGE_MAX_LEN(SET)], message_coins[COINS_LEN];
-static uint8_t joined[COINS_LEN + 1u + PROGRAMME_MAX_LEN], work[KINDI_DECRYPT_WORK_LEN(SET)];
-
-#if KINDI_KEYGEN_WORK_LEN(SET) > KINDI_DECRYPT_WORK_LEN(SET) \
-    || KINDI_ENCRYPT_WORK_LEN(SET) > KINDI_DECRYPT_WORK_LEN(SET)
-#error "the work area is too short"
-#endif
+static uint8_t joined[COINS_LEN + 1u + PROGRAMME_MAX_LEN], work[KINDI_MOST_WORK_LEN(SET)];
 
 /* The byte 05 keeps the tag apart from what KINDI itself makes of the coins, alone or with a byte 04. */
 static uint32_t tag_of(const uint8_t *coins, const uint8_t *programme, size_t len, uint8_t *tag)

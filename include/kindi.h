@@ -11,7 +11,7 @@
  * pointer that the convention gives to a function: an interrupt handler on the same stack has to leave both as
  * they were. The library needs memcpy and memset and nothing else of a C library. It is position independent
  * (shared objects, static-pie), has a section for each function (--gc-sections: a program that calls kindi_keygen
- * alone takes about 20 KB of code), allocates nothing and has no data that is written.
+ * alone takes about 22 KB of code), allocates nothing and has no data that is written.
  *
  * What holds for each call:
  *
@@ -63,7 +63,8 @@ extern "C" {
  * the output is byte place + j of SHAKE's, counted from 0. So place 0 gives SHAKE's first bytes, and a long output
  * can be had in parts, each from where the one before it ended. There is one check, that place plus output_len is
  * not over KINDI_SHAKE_LIMIT, and nothing overflows, whatever the two are. The bytes before the place are computed
- * and kept nowhere: the time grows with place plus output_len, the memory does not.
+ * and written to no buffer: the time grows with place plus output_len, the memory does not. Each call begins at
+ * the start of the output again, so many short parts take far longer than one call.
  *
  *   input    of any length
  *   place    that of the first byte wanted, from 0
@@ -111,14 +112,17 @@ KINDI_CHECK_STATUS uint32_t kindi_shake256(const uint8_t *input, size_t input_le
 #define KINDI_MESSAGE_MAX_LEN(set) KINDI_BY_SET(set, 383u, 383u, 575u, 511u)
 
 /* The least work area of each call. */
-#define KINDI_KEYGEN_WORK_LEN(set) KINDI_BY_SET(set, 4608u, 3840u, 4352u, 8256u)
-#define KINDI_ENCRYPT_WORK_LEN(set) KINDI_BY_SET(set, 4864u, 4160u, 4608u, 8512u)
-#define KINDI_ENCRYPT_EACH_WORK_LEN(set) KINDI_BY_SET(set, 4864u, 4160u, 4608u, 8512u)
-#define KINDI_DECRYPT_WORK_LEN(set) KINDI_BY_SET(set, 4864u, 4160u, 4608u, 8512u)
-#define KINDI_ENCAPS_WORK_LEN(set) KINDI_BY_SET(set, 4864u, 4160u, 4608u, 8512u)
-#define KINDI_DECAPS_WORK_LEN(set) KINDI_BY_SET(set, 4864u, 4160u, 4608u, 8512u)
-#define KINDI_NOISE_WORK_LEN(set) KINDI_BY_SET(set, 5440u, 4672u, 5376u, 9280u)
-#define KINDI_CHOOSE_WORK_LEN(set) KINDI_BY_SET(set, 5440u, 4672u, 5376u, 9280u)
+#define KINDI_KEYGEN_WORK_LEN(set) KINDI_BY_SET(set, 576u, 832u, 896u, 832u)
+#define KINDI_ENCRYPT_WORK_LEN(set) KINDI_BY_SET(set, 832u, 832u, 1024u, 1024u)
+#define KINDI_ENCRYPT_EACH_WORK_LEN(set) KINDI_BY_SET(set, 832u, 832u, 1024u, 1024u)
+#define KINDI_DECRYPT_WORK_LEN(set) KINDI_BY_SET(set, 1024u, 1472u, 1600u, 1536u)
+#define KINDI_ENCAPS_WORK_LEN(set) KINDI_BY_SET(set, 832u, 832u, 1024u, 1024u)
+#define KINDI_DECAPS_WORK_LEN(set) KINDI_BY_SET(set, 1024u, 1472u, 1600u, 1536u)
+#define KINDI_NOISE_WORK_LEN(set) KINDI_BY_SET(set, 1408u, 1344u, 1792u, 1792u)
+#define KINDI_CHOOSE_WORK_LEN(set) KINDI_BY_SET(set, 1408u, 1344u, 1792u, 1792u)
+
+/* The longest of them: an area of this length does for every call with this set, and that of set 4 for all sets. */
+#define KINDI_MOST_WORK_LEN(set) KINDI_BY_SET(set, 1408u, 1472u, 1792u, 1792u)
 
 /* The most recipients that kindi_encrypt_each takes. */
 #define KINDI_MAX_RECIPIENTS 12u
@@ -127,7 +131,7 @@ KINDI_CHECK_STATUS uint32_t kindi_shake256(const uint8_t *input, size_t input_le
 #define KINDI_CHOOSE_MAX_COINS 8u
 
 /* The most bytes of stack that a call takes, its arguments and its return address included. */
-#define KINDI_STACK_LEN 24448u
+#define KINDI_STACK_LEN 18512u
 
 /*
  * What the calls return: 0 for success, otherwise the number of a refusal. A call of the scheme makes its checks
@@ -145,7 +149,8 @@ KINDI_CHECK_STATUS uint32_t kindi_shake256(const uint8_t *input, size_t input_le
  * in what the call took of it, and after kindi_decrypt and kindi_decaps all of the coins, also where kindi_decaps
  * refuses with KINDI_WRONG_DIGEST. After the other calls of the scheme values lie there from which secrets
  * follow: the key's secret vector after kindi_keygen, kindi_noise and kindi_choose, and one that gives the coins
- * after kindi_encrypt and kindi_encrypt_each. A caller who shares the stack with code that is not trusted clears
+ * after kindi_encrypt and kindi_encrypt_each. After a SHAKE call the sponge lies there, which gives the rest of the
+ * output and, where the input is shorter than a block, the input. A caller who shares the stack with code that is not trusted clears
  * KINDI_STACK_LEN bytes of it after each call, refused or not, as examples/clear_stack.h does.
  */
 enum kindi_status {

@@ -178,7 +178,21 @@ def check_examples():
                 yield f"{document} does not name the example {path.name}"
 
 
-CHECKS = [check_readers, check_links, check_names, check_believed, check_wrong_programs, check_version, check_examples]
+def check_counts():
+    """How many crates and edits there are, where their times are told; README.md has the time of each crate."""
+    crates = re.findall(r"^(\w+):", text_of("crates.txt"), re.M)
+    edits = len(list(CRATES.glob("*/must-fail/*.edit")))
+    for document, said in (("README.md", f"{edits} must-fail edits"), ("docs/BENCH.md", f"the {edits} must-fail edits"),
+                           ("docs/BENCH.md", f"the {len(crates)} crates")):
+        if said not in text_of(document):
+            yield f"{document} does not say: {said}"
+    for crate in crates:
+        if not re.search(rf"`{crate}` \d+ s\b", text_of("README.md")):
+            yield f"README.md has no time of the check of {crate}"
+
+
+CHECKS = [check_readers, check_links, check_names, check_believed, check_wrong_programs, check_version, check_examples,
+          check_counts]
 
 
 def main():

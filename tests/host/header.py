@@ -34,6 +34,7 @@ LENGTHS = {
     "KINDI_KEY_LEN": lambda s: kindi.length(s, "key"),
     "KINDI_MESSAGE_MAX_LEN": lambda s: s.message,
     **{f"KINDI_{name.upper()}_WORK_LEN": this.work for name, this in kindi.CALLS.items()},
+    "KINDI_MOST_WORK_LEN": lambda s: max(this.work(s) for this in kindi.CALLS.values()),
 }
 
 # In the order of the paper's checks; the one of the SHAKE calls stands last.

@@ -97,6 +97,8 @@ static void nulls(const struct kind *kind)
         fail(kind, "the input was changed", sizeof in, 0);
     give(kind, NULL, 0, 0, NULL, 0);
     give(kind, NULL, 0, kind->rate, NULL, 0);
+    if (kind->call(NULL, 0, KINDI_SHAKE_LIMIT + 1u, NULL, 0) != KINDI_PAST_LIMIT)
+        fail(kind, "NULL past the limit was not refused", 0, 0);
 }
 
 /*

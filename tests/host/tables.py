@@ -18,6 +18,7 @@ SCHEME = "docs/SCHEME.md"
 
 # The first lines of the tables.
 OF_WORK = "| call | set 1 | set 2 | set 3 | set 4 | what lies in it |"
+OF_ALL = "the longest of these"
 OF_LENGTHS = "| | set 1 | set 2 | set 3 | set 4 |"
 OF_REFUSALS = {README: "| number | when |", SCHEME: "| number | the check fails where | made by |"}
 
@@ -94,6 +95,11 @@ def check_work(cells):
     """Holds the table of work areas to the header; the macros that it has."""
     covered, called = set(), set()
     for row in table(WORK_AREAS, OF_WORK):
+        if row[0] == OF_ALL:
+            check_row(WORK_AREAS, row, work_of("most"), cells)
+            covered.add(work_of("most"))
+            check(row[4] == max(row[1:5], key=int), f"{WORK_AREAS}: an area of set 4's longest does not do for every set")
+            continue
         for call in re.findall(r"\w+", row[0]):
             called.add(call)
             name = work_of(call.removeprefix("kindi_"))

@@ -385,16 +385,23 @@ class Call:
     values: tuple = ()
 
 
+# A polynomial of A shares its room with a stream that is not read any more, that of gamma or of the coins, and in the
+# noise with the one of the coins, which comes later; in decryption the mask is kept, and the polynomial lies behind it.
 def keygen_work(s):
-    return s.matrix_stream + s.gamma_stream
+    return max(s.gamma_stream, s.size(1, s.k))
 
 
 def encrypt_work(s):
-    return s.matrix_stream + sum(s.coins_parts)
+    return max(sum(s.coins_parts), s.size(1, s.k))
+
+
+def decrypt_work(s):
+    w, mask, h, rest = s.coins_parts
+    return w + mask + max(h + rest, s.size(1, s.k))
 
 
 def noise_work(s):
-    return keygen_work(s) + sum(s.coins_parts)
+    return s.gamma_stream + encrypt_work(s)
 
 
 CALLS = {
@@ -402,9 +409,9 @@ CALLS = {
     "encrypt": Call(encrypt, encrypt_work, ("public_key", "coins", "message"), ("ciphertext",)),
     "encrypt_each": Call(encrypt_each, encrypt_work, ("count", "public_keys", "coins_list", "message"),
                          ("ciphertexts",)),
-    "decrypt": Call(decrypt, encrypt_work, ("secret_key", "ciphertext"), ("coins", "message"), ("message_len",)),
+    "decrypt": Call(decrypt, decrypt_work, ("secret_key", "ciphertext"), ("coins", "message"), ("message_len",)),
     "encaps": Call(encaps, encrypt_work, ("public_key", "coins"), ("key", "ciphertext")),
-    "decaps": Call(decaps, encrypt_work, ("secret_key", "ciphertext"), ("key",)),
+    "decaps": Call(decaps, decrypt_work, ("secret_key", "ciphertext"), ("key",)),
     "noise": Call(noise, noise_work, ("secret_key", "coins", "message"), (), ("clear", "largest")),
     "choose": Call(choose, noise_work, ("secret_key", "message", "coins_list"), (), ("place",)),
 }
@@ -486,9 +493,10 @@ TABLE = {
 
 # The lengths of work areas that docs/WORK-AREAS.md lists, set by set; the paper's bound on them.
 WORK_TABLE = {
-    ("keygen",): (4608, 3840, 4352, 8256),
-    ("encrypt", "encrypt_each", "decrypt", "encaps", "decaps"): (4864, 4160, 4608, 8512),
-    ("noise", "choose"): (5440, 4672, 5376, 9280),
+    ("keygen",): (576, 832, 896, 832),
+    ("encrypt", "encrypt_each", "encaps"): (832, 832, 1024, 1024),
+    ("decrypt", "decaps"): (1024, 1472, 1600, 1536),
+    ("noise", "choose"): (1408, 1344, 1792, 1792),
 }
 MOST_WORK = 65536
 
@@ -632,9 +640,9 @@ def check_early_refusals():
 
     assert made(7, seed[1:], seed, seed) == (1, work)
     assert made(1, seed[1:], seed, seed) == (2, bytes(5000))
-    assert made(1, seed, seed, seed + b"0", work[:4607]) == (2, work[:4607])
-    assert made(1, seed, seed, seed, work[:4607]) == (4, work[:4607])
-    assert made(1, seed, seed, seed, work[:4608]) == (0, bytes(4608))
+    assert made(1, seed, seed, seed + b"0", work[:575]) == (2, work[:575])
+    assert made(1, seed, seed, seed, work[:575]) == (4, work[:575])
+    assert made(1, seed, seed, seed, work[:576]) == (0, bytes(576))
     inputs = {"public_key": bytes(s.public_key), "coins": seed, "message": bytes(384)}
     assert call("encrypt", 1, inputs, {"ciphertext": bytes(1791)}, work).status == 3
     inputs["message"] = bytes(383)
@@ -654,12 +662,12 @@ def check_order():
     """A call in which all is wrong is mended one thing after another, and meets the refusals in their order."""
     s, number = SETS[1], 7
     given = {"count": 0, "public_keys": bytes(1), "coins_list": bytes(1), "message": bytes(384)}
-    outputs, work = {"ciphertexts": bytes(1)}, b"\x5a" * 4863
+    outputs, work = {"ciphertexts": bytes(1)}, b"\x5a" * 831
 
     def status():
         got = call("encrypt_each", number, given, outputs, work)
         assert got.status == 0 or got.outputs == outputs
-        assert got.work == (work if got.status == 1 or len(work) < 4864 else bytes(len(work)))
+        assert got.work == (work if got.status == 1 or len(work) < 832 else bytes(len(work)))
         return got.status
 
     assert status() == 1

@@ -77,9 +77,9 @@ def signed_case(w, p, bound, u, v):
     return case(SIGNED, n, words(u + v), struct.pack(f"<{n}iIB", *product, *sizes), w, p, bound)
 
 
-def sum_case(x, y, z):
-    total = ring.modulo(2**16, ring.subtract(ring.add(x, y), z))
-    return case(SUM, len(x), words(x + y + z), words(total))
+def sum_case(c, x, y):
+    total = ring.modulo(2**16, ring.subtract([c] * len(x), ring.add(x, y)))
+    return case(SUM, len(x), words(x + y), words(total), p=c)
 
 
 def bit_cases():
@@ -168,10 +168,10 @@ def end_cases():
 
 def sum_cases():
     for n in COUNTS:
-        x, y, z = (values(n, 2**16, n + i) for i in range(3))
-        yield sum_case(x, y, z)
-        for lists in ((0, 0, 65535), (65535, 65535, 0), (65535, 1, 0), (0, 0, 1), (32768, 32768, 32768)):
-            yield sum_case(*([value] * n for value in lists))
+        for c in (0, 1, 4, 65535):
+            yield sum_case(c, *(values(n, 2**16, n + i + c) for i in range(2)))
+        for c, *lists in ((65535, 0, 0), (0, 65535, 65535), (0, 65535, 1), (1, 0, 0), (32768, 32768, 32768)):
+            yield sum_case(c, *([value] * n for value in lists))
 
 
 def make():

@@ -1,9 +1,10 @@
 // The lengths of keys and work areas, in bytes.
 ghost use mathlib.Core.Path.{_≡_};
 ghost use Prim.Native.Nat.{_≤_};
-ghost use Rattle.kindi.specs.Params.{WellFormed, publicLength, secretLength, coinsStreamLength, keygenWork, encryptWork, decryptWork, noiseWork};
+ghost use Rattle.kindi.specs.Params.{WellFormed, publicLength, secretLength, keygenWork, encryptWork, decryptWork, noiseWork};
 use kindi::Params;
 use vectors::lengths;
+use vectors::lengths::larger;
 
 pub fn public_key(p: Params) -> usize
     requires { ⌜ WellFormed p ⌝ }
@@ -19,38 +20,31 @@ pub fn secret_key(p: Params) -> usize
     public_key(p) + (p.seed + p.seed)
 }
 
-// The stream from the coins.
-fn coins_stream(p: Params) -> usize
-    requires { ⌜ WellFormed p ⌝ }
-    ensures { λ r. ⌜ (r ≡ coinsStreamLength p) × (r ≤ 262144) ⌝ }
-{
-    lengths::low(p) + (lengths::padded(p) + (lengths::high(p) + lengths::rest(p)))
-}
-
 pub fn keygen_work(p: Params) -> usize
     requires { ⌜ WellFormed p ⌝ }
-    ensures { λ r. ⌜ (r ≡ keygenWork p) × (r ≤ 131072) ⌝ }
+    ensures { λ r. ⌜ r ≡ keygenWork p ⌝ }
 {
-    lengths::matrix(p) + lengths::secrets(p)
+    larger(lengths::secrets(p), lengths::polynomial(p))
 }
 
 pub fn encrypt_work(p: Params) -> usize
     requires { ⌜ WellFormed p ⌝ }
-    ensures { λ r. ⌜ r ≡ encryptWork p ⌝ }
+    ensures { λ r. ⌜ (r ≡ encryptWork p) × (r ≤ 262144) ⌝ }
 {
-    lengths::matrix(p) + coins_stream(p)
+    larger(lengths::coins_stream(p), lengths::polynomial(p))
 }
 
 pub fn decrypt_work(p: Params) -> usize
     requires { ⌜ WellFormed p ⌝ }
     ensures { λ r. ⌜ r ≡ decryptWork p ⌝ }
 {
-    encrypt_work(p)
+    let behind = larger(lengths::high(p) + lengths::rest(p), lengths::polynomial(p));
+    lengths::low(p) + lengths::padded(p) + behind
 }
 
 pub fn noise_work(p: Params) -> usize
     requires { ⌜ WellFormed p ⌝ }
     ensures { λ r. ⌜ r ≡ noiseWork p ⌝ }
 {
-    keygen_work(p) + coins_stream(p)
+    lengths::secrets(p) + encrypt_work(p)
 }

@@ -1,27 +1,30 @@
--- Laws of the polynomials that the code puts together from several strings: s_1 and P. Assumes nothing.
+-- Laws of the polynomials that the code puts together from several strings: s and P. Assumes nothing.
 use mathlib.Core.Path.{_≡_, refl, sym, ap, ap₂, _∙_}
 use mathlib.Core.Bool.{Bool, true, false, cond}
-use mathlib.Core.List.{List, [], _∷_}
-use Prim.Native.Nat.{ℕ, zero, suc, _+_, _-_, _*_, _^_, _≤_, _<_, suc-le-suc, zero-le}
-use native.Mathlib.Nat.{not-suc-le-zero, not-suc-le-self, le-trans, zero-mul, zero-add, add-zero, mul-one, mul-zero, suc-mul, mod-lt}
+use mathlib.Core.List.{List, [], _∷_, _++_, append-assoc, append-nil}
+use Prim.Native.Nat.{ℕ, zero, suc, _+_, _-_, _*_, _^_, _<_, suc-le-suc, zero-le}
+use native.Mathlib.Nat.{not-suc-le-zero, add-zero, mul-one, mul-zero, mod-lt}
 use native.Mathlib.Omega.{arith}
-use lib.Dec.{T, eqb, ltb, eqb·suc-zero, lt→ltb, ltb→lt}
+use lib.Dec.{eqb, eqb·suc-zero}
 use lib.IntN.{ℤ, pos, _+ℤ_, _*ℤ_}
-use lib.ListN.{length, getD, length-set}
+use lib.ListN.{length, getD, take, drop, length-set}
+use Rattle.keccak.proofs.Entries.{tabulate-at}
+use Rattle.keccak.proofs.Parts.{take-rest}
 use Rattle.bits.specs.Bits.{Below, unpack}
 use Rattle.ring.specs.Integers.{Cong, centred}
-use Rattle.ring.specs.Poly.{Poly, plus, unit, transposed, ofNats, residues}
+use Rattle.ring.specs.Poly.{Poly, plus, unit, ofNats, residues}
 use Rattle.ring.specs.Coefficients.{added, centredWords}
 use Rattle.bits.proofs.Digits.{length-unpack}
+use Rattle.ring.proofs.Integers.{ring}
 use Rattle.ring.proofs.Modular.{cong-add, cong-sub, cong-refl, cong-of-eq, cong-trans, cong-mod}
 use Rattle.ring.proofs.Residues.{residues-cong, length-residues, residues-below, residues-of-list, ofNats-residues}
 use Rattle.kindi.specs.declared.Params.{Params}
-use Rattle.kindi.specs.Params.{WellFormed, half, highWidth}
-use Rattle.kindi.specs.Streams.{coefficient, firstIn, lowIn}
-use Rattle.kindi.specs.Keys.{stored}
-use Rattle.kindi.specs.Encrypt.{decompressedBy, factorBy}
+use Rattle.kindi.specs.Params.{WellFormed, half, highWidth, lengthOf}
+use Rattle.kindi.specs.Streams.{coefficient, smallIn, firstIn, lowIn, ephemeralBy}
+use Rattle.kindi.specs.Keys.{joined, stored}
+use Rattle.kindi.specs.Encrypt.{decompressedBy}
 use Rattle.vectors.specs.Vectors.{vector, raised, withConstant}
-use Rattle.vectors.proofs.Reading.{flat, coefficient-first, coefficient-on}
+use Rattle.vectors.proofs.Reading.{coefficient-first, unpack-from}
 
 -- An entry of a list that has been multiplied.
 raised-cong : (n t : ℕ) (xs : List ℕ) (x : ℕ) → length xs ≡ n → x < n → Cong 65536 (ofNats (raised t xs) x) (pos (2 ^ t * getD xs x 0))
@@ -70,76 +73,79 @@ constant-below c [] b i = b i
 constant-below c (v ∷ xs) b zero = mod-lt (v + c) (suc-le-suc zero-le)
 constant-below c (v ∷ xs) b (suc i) = b (suc i)
 
-unit-later : (y : ℕ) → 0 < y → unit y ≡ pos 0
-unfolding unit
-unit-later zero h = absurd (not-suc-le-zero h)
-unit-later (suc y) h = rw (eqb·suc-zero y) refl
+-- The constant of P_i: that of the first polynomial alone is g.
+constant-is : (first : Bool) (g x : ℕ) → pos (cond first g 0) *ℤ unit x ≡ cond first (pos g *ℤ unit x) (pos 0)
+constant-is true g x = refl
+constant-is false g x = *ℤ-zero-l (unit x)
+  where
+    *ℤ-zero-l : (z : ℤ) → pos 0 *ℤ z ≡ pos 0
+    *ℤ-zero-l z = simp ring
 
--- The constant of a vector is that of its first polynomial.
-unit-flat : (n i x g : ℕ) → x < n → pos g *ℤ unit (i * n + x) ≡ cond (eqb i 0) (pos g *ℤ unit x) (pos 0)
-unit-flat n zero x g h = rw (zero-mul n, zero-add x) refl
-unit-flat n (suc i) x g h =
-    let some : 0 < suc i * n + x = omega (arith, suc-mul i n) in
-    rw (unit-later (suc i * n + x) some, eqb·suc-zero i) (ap pos (mul-zero g))
+-- An entry of polynomial i that is read from the rest of a string.
+rest-at : (P : Params) → WellFormed P → (w i from : ℕ) (bytes : List ℕ) → Below 256 bytes → from ≡ lengthOf P i w → (x : ℕ) → x < P .n
+    → getD (unpack w (P .n) (take (length bytes - from) (drop from bytes))) x 0 ≡ coefficient w (P .n) bytes i x
+rest-at P W w i from bytes below e x h =
+    ap (λ (xs : List ℕ). getD (unpack w (P .n) xs) x 0) (take-rest from bytes ∙ ap (λ (m : ℕ). drop m bytes) e)
+    ∙ ap (λ (xs : List ℕ). getD xs x 0) (unpack-from P W w (P .n) i bytes below) ∙ tabulate-at (P .n) (coefficient w (P .n) bytes i) x 0 h
 
--- A coefficient of a vector of polynomials.
-flat-at : (w n : ℕ) (bytes : List ℕ) (i x : ℕ) → coefficient w n bytes 0 (i * n + x) ≡ coefficient w n bytes i x
-flat-at w n bytes i x = coefficient-on w n bytes 0 i x ∙ ap (λ (k : ℕ). coefficient w n bytes k x) (zero-add i)
-
--- P: 2^t times the stored polynomials, plus w, and g at the constant of the first.
-pub decompress-is : (P : Params) → WellFormed P → (pk low : List ℕ) (c : ℕ) → c ≡ half P
-    → withConstant c
-    (added (raised (P .t) (unpack (P .k - P .t) (P .l * P .n) pk)) (centredWords (2 ^ (P .t - 1)) (unpack (P .t) (P .l * P .n) low)))
-    ≡ vector (P .l) (P .n) (decompressedBy P pk (lowIn P low))
+-- P_i: 2^t times stored polynomial i, plus w_i, and g at the constant of the first.
+decompress-is : (P : Params) → WellFormed P → (pk low : List ℕ) → Below 256 pk → Below 256 low → (i from at c : ℕ)
+    → from ≡ lengthOf P i (P .k - P .t) → at ≡ lengthOf P i (P .t) → c ≡ cond (eqb i 0) (half P) 0
+    → withConstant c (added (raised (P .t) (unpack (P .k - P .t) (P .n) (take (length pk - from) (drop from pk))))
+    (centredWords (2 ^ (P .t - 1)) (unpack (P .t) (P .n) (take (length low - at) (drop at low)))))
+    ≡ residues 65536 (P .n) (decompressedBy P pk (lowIn P low) i)
 unfolding stored
-decompress-is P W pk low c e =
+decompress-is P W pk low bp bl i from at c ef ea ec =
     let n : ℕ = P .n in
-    let N : ℕ = P .l * n in
     let d : ℕ = P .k - P .t in
     let m : ℕ = 2 ^ (P .t - 1) in
-    let a : List ℕ = unpack d N pk in
-    let b : List ℕ = unpack (P .t) N low in
-    let la : length a ≡ N = length-unpack d N pk in
-    let lb : length b ≡ N = length-unpack (P .t) N low in
-    let lr : length (raised (P .t) a) ≡ N = length-residues 65536 (length a) (λ k. pos (2 ^ P .t * getD a k 0)) ∙ la in
+    let a : List ℕ = unpack d n (take (length pk - from) (drop from pk)) in
+    let b : List ℕ = unpack (P .t) n (take (length low - at) (drop at low)) in
+    let la : length a ≡ n = length-unpack d n _ in
+    let lb : length b ≡ n = length-unpack (P .t) n _ in
+    let lr : length (raised (P .t) a) ≡ n = length-residues 65536 (length a) (λ k. pos (2 ^ P .t * getD a k 0)) ∙ la in
+    let sum : Poly = plus (ofNats (raised (P .t) a)) (ofNats (centredWords m b)) in
     let xs : List ℕ = added (raised (P .t) a) (centredWords m b) in
-    let lx : length xs ≡ N = length-residues 65536 (length (raised (P .t) a)) (plus (ofNats (raised (P .t) a)) (ofNats (centredWords m b)))
-    ∙ lr in
+    let lx : length xs ≡ n = length-residues 65536 (length (raised (P .t) a)) sum ∙ lr in
     let ys : List ℕ = withConstant c xs in
-    let ly : length ys ≡ N = length-set xs 0 _ ∙ lx in
-    let below : Below 65536 ys = constant-below c xs
-    (residues-below (suc-le-suc zero-le) (length (raised (P .t) a)) (plus (ofNats (raised (P .t) a)) (ofNats (centredWords m b)))) in
-    let g : ℕ → ℤ = λ y. (pos (2 ^ P .t * coefficient d n pk 0 y) +ℤ centred m (coefficient (P .t) n low 0 y)) +ℤ pos (half P) *ℤ unit y in
+    let ly : length ys ≡ n = length-set xs 0 _ ∙ lx in
+    let below : Below 65536 ys = constant-below c xs (residues-below (suc-le-suc zero-le) (length (raised (P .t) a)) sum) in
     sym (residues-of-list 65536 ys below) ∙ ap (λ (k : ℕ). residues 65536 k (ofNats ys)) ly
-    ∙ residues-cong (suc-le-suc zero-le) N (ofNats ys) g (λ y h.
-    cong-trans (constant-cong N c xs y lx h)
+    ∙ residues-cong (suc-le-suc zero-le) n (ofNats ys) (decompressedBy P pk (lowIn P low) i) (λ x h.
+    cong-trans (constant-cong n c xs x lx h)
     (cong-add
-    (cong-trans (added-cong N (raised (P .t) a) (centredWords m b) y lr h)
+    (cong-trans (added-cong n (raised (P .t) a) (centredWords m b) x lr h)
     (cong-add
-    (cong-trans (raised-cong N (P .t) a y la h) (cong-of-eq (ap (λ (k : ℕ). pos (2 ^ P .t * k)) (sym (coefficient-first d n N pk y h)))))
-    (cong-trans (centred-cong N m b y lb h) (cong-of-eq (ap (centred m) (sym (coefficient-first (P .t) n N low y h)))))))
-    (cong-of-eq (ap (λ (k : ℕ). pos k *ℤ unit y) e))))
-    ∙ flat (P .l) n (decompressedBy P pk (lowIn P low)) g (λ i x h l.
-    ap₂ _+ℤ_
-    (ap₂ _+ℤ_ (ap (λ (k : ℕ). pos (2 ^ P .t * k)) (flat-at d n pk i x)) (ap (centred m) (flat-at (P .t) n low i x)))
-    (unit-flat n i x (half P) l))
+    (cong-trans (raised-cong n (P .t) a x la h) (cong-of-eq (ap (λ (k : ℕ). pos (2 ^ P .t * k)) (rest-at P W d i from pk bp ef x h))))
+    (cong-trans (centred-cong n m b x lb h) (cong-of-eq (ap (centred m) (rest-at P W (P .t) i at low bl ea x h))))))
+    (cong-of-eq (ap (λ (k : ℕ). pos k *ℤ unit x) ec ∙ constant-is (eqb i 0) (half P) x))))
 
-taken : {A : Type 0} (b : Bool) (x y : A) → T b → x ≡ cond b x y
-taken true x y h = refl
-taken false x y h = absurd h
+-- So the steps of `decompress` leave it.
+pub decompressed-is : (P : Params) → WellFormed P → (pk low : List ℕ) → Below 256 pk → Below 256 low → (i from at c d N M : ℕ)
+    → from ≡ lengthOf P i (P .k - P .t) → at ≡ lengthOf P i (P .t) → c ≡ cond (eqb i 0) (half P) 0 → d ≡ 2 ^ (P .t - 1) → N ≡ P .n → M ≡ P .n
+    → {f r w s ys : List ℕ} → f ≡ unpack (P .k - P .t) N (take (length pk - from) (drop from pk)) → r ≡ raised (P .t) f
+    → w ≡ centredWords d (unpack (P .t) M (take (length low - at) (drop at low))) → s ≡ added r w → ys ≡ withConstant c s
+    → ys ≡ residues 65536 (P .n) (decompressedBy P pk (lowIn P low) i)
+decompressed-is P W pk low bp bl i from at c d N M ef ea ec ed eN eM isF isR isW isS isY =
+    isY ∙ ap (withConstant c) (isS ∙ ap₂ added
+    (isR ∙ ap (raised (P .t)) (isF ∙ ap (λ (m : ℕ). unpack (P .k - P .t) m (take (length pk - from) (drop from pk))) eN))
+    (isW ∙ ap₂ (λ (e m : ℕ). centredWords e (unpack (P .t) m (take (length low - at) (drop at low)))) ed eM))
+    ∙ decompress-is P W pk low bp bl i from at c ef ea ec
 
-passed : {A : Type 0} (b : Bool) (x y : A) → (T b → ⊥) → y ≡ cond b x y
-passed true x y h = absurd (h tt)
-passed false x y h = refl
+-- ---- s
 
--- What meets s in the first polynomials of a ciphertext, and in the last.
-pub factor-column : (P : Params) (pk : List ℕ) (A : ℕ → ℕ → Poly) (w : ℕ → Poly) (j : ℕ) → j < P .l
-    → vector (P .l) (P .n) (transposed A j) ≡ vector (P .l) (P .n) (factorBy P pk A w j)
-factor-column P pk A w j h =
-    ap (vector (P .l) (P .n)) (taken (ltb j (P .l)) (transposed A j) (decompressedBy P pk w) (lt→ltb j (P .l) h))
+-- Lists joined are the first of them and the others.
+joined-first : (m : ℕ) (g : ℕ → List ℕ) → joined (suc m) g ≡ g 0 ++ joined m (λ i. g (suc i))
+unfolding joined
+joined-first zero g = sym (append-nil (g 0))
+joined-first (suc m) g =
+    ap (λ (l : List ℕ). l ++ g (suc m)) (joined-first m g) ∙ append-assoc (g 0) (joined m (λ i. g (suc i))) (g (suc m))
 
-pub factor-last : (P : Params) (pk : List ℕ) (A : ℕ → ℕ → Poly) (w : ℕ → Poly) (j : ℕ) → P .l ≤ j
-    → vector (P .l) (P .n) (decompressedBy P pk w) ≡ vector (P .l) (P .n) (factorBy P pk A w j)
-factor-last P pk A w j h =
-    ap (vector (P .l) (P .n))
-    (passed (ltb j (P .l)) (transposed A j) (decompressedBy P pk w) (λ t. not-suc-le-self j (le-trans (ltb→lt j (P .l) t) h)))
+-- s is s_1, then s_2 to s_ℓ.
+pub ephemeral-first : (P : Params) (coins high rest : List ℕ) (l : ℕ) → 0 < l
+    → residues 65536 (P .n) (firstIn P coins high) ++ vector (l - 1) (P .n) (smallIn P rest) ≡ vector l (P .n) (ephemeralBy P coins high rest)
+unfolding vector ephemeralBy
+ephemeral-first P coins high rest zero h = absurd (not-suc-le-zero h)
+ephemeral-first P coins high rest (suc l) h =
+    let less : suc l - 1 ≡ l = omega arith in
+    rw less (sym (joined-first l (λ i. residues 65536 (P .n) (ephemeralBy P coins high rest i))))

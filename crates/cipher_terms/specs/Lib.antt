@@ -1,2 +1,3 @@
 -- What the contracts of `cipher_terms` say.
 pub mod Inputs
+pub mod Terms

@@ -1,5 +1,5 @@
 -- The laws that the proofs of `decryption` share.
 pub mod Value
-pub mod Left
-pub mod Masked
+pub mod Remaining
+pub mod Sums
 pub mod Fitting

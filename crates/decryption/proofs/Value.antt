@@ -2,8 +2,8 @@
 use mathlib.Core.Path.{_≡_, sym, ap, ap₂, _∙_}
 use mathlib.Core.List.{List, map}
 use Prim.Native.Nat.{ℕ, suc, _+_, _-_, _*_, _/_, _%_, _^_, _≤_, _<_, suc-le-suc, zero-le}
-use native.Mathlib.Nat.{mod-add-div, add-mul-div-left, add-mul-mod-self-left, mod-mod, mul-assoc, mul-suc, mul-le-mul-left, mul-le-mul}
-use native.Mathlib.Nat.{mul-le-mul-right, one-mul, le-trans, le-add-right, pow-suc, lt-of-lt-of-le}
+use native.Mathlib.Nat.{mod-add-div, add-mul-div-left, add-mul-mod-self-left, mod-mod, mul-assoc, mul-suc, mul-le-mul-left}
+use native.Mathlib.Nat.{pow-suc, lt-of-lt-of-le}
 use native.Mathlib.Omega.{arith}
 use lib.IntN.{ℤ, pos, negℤ, _+ℤ_, _-ℤ_}
 use lib.ListN.{length}
@@ -21,12 +21,12 @@ use Rattle.ring.proofs.Residues.{residues-cong, length-residues, ofNats-residue
 use Rattle.ring.proofs.Ring.{dot-cong}
 use Rattle.product.specs.Dots.{withDot}
 use Rattle.kindi.specs.declared.Params.{Params}
-use Rattle.kindi.specs.Params.{WellFormed, modulus, width, lengthOf, secretsLength, matrixLength, coinsStreamLength, decryptWork}
+use Rattle.kindi.specs.Params.{WellFormed, modulus, width, lengthOf, secretsLength, paddedLength, decryptWork}
 use Rattle.kindi.specs.Streams.{coefficient, smallIn, secret, keySecret}
 use Rattle.kindi.specs.Decrypt.{cipherPart, noisyValue, roundedBit, roundedCoins}
 use Rattle.kindi.proofs.Strings.{coefficient-append, coefficient-unpack, whole-bytes, place-below, shake-below}
 use Rattle.vectors.specs.Vectors.{vector}
-use Rattle.vectors.proofs.Amounts.{length-add}
+use Rattle.vectors.proofs.Amounts.{length-add, length-le}
 use Rattle.vectors.proofs.Reading.{flat, vector-cong}
 use Rattle.decryption.specs.Opened.{valueBy, coinsFrom}
 
@@ -79,7 +79,7 @@ value-left P ct r f d v s isF isD isV isS =
 -- ---- r
 
 -- The secret vector r is in the first half of the stream of γ.
-pub secret-half : (P : Params) → WellFormed P → (γ : List ℕ) (i x : ℕ) → i < P .l → x < P .n
+secret-half : (P : Params) → WellFormed P → (γ : List ℕ) (i x : ℕ) → i < P .l → x < P .n
     → smallIn P (shake (P .rate) γ (lengthOf P (P .l) (width P))) i x ≡ secret P γ i x
 unfolding keySecret
 secret-half P W γ i x h l =
@@ -96,14 +96,11 @@ secret-half P W γ i x h l =
     ∙ ap (λ (b : List ℕ). coefficient (width P) (P .n) b i x) (shake-split (P .rate) γ L L)
     ∙ coefficient-append (width P) (P .n) first (shakeFrom (P .rate) γ L L) i x (shake-below (P .rate) γ L) room))
 
--- It is shorter than the matrix, so it fits a work area.
-pub secret-fits : (P : Params) → WellFormed P → lengthOf P (P .l) (width P) ≤ decryptWork P
-unfolding lengthOf
-secret-fits P W =
-    let one : 1 * P .l ≤ P .l * P .l = mul-le-mul-right (P .l) (W .some-polynomials) in
-    let more : P .l ≤ P .l * P .l = rw one-mul at one in
-    let matrix : lengthOf P (P .l) (width P) ≤ matrixLength P = mul-le-mul more (mul-le-mul-left (P .n / 8) (W .small)) in
-    le-trans matrix (le-add-right (matrixLength P) (coinsStreamLength P))
+-- It is shorter than a padded message, so it fits a work area.
+pub secret-fits : (P : Params) → lengthOf P (P .l) (width P) ≤ decryptWork P
+secret-fits P =
+    let shorter : lengthOf P (P .l) (width P) ≤ paddedLength P = length-le P (width P) (omega arith) in
+    omega (arith, shorter)
 
 -- ---- rounding
 

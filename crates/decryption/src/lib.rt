@@ -3,36 +3,33 @@ mod recover;
 mod remainders;
 
 ghost use mathlib.Core.Path.{_≡_};
-ghost use mathlib.Core.List.{_++_};
-ghost use lib.ListN.{take};
-ghost use Rattle.hash.specs.Shake.{shake as Shake·shake};
-ghost use Rattle.kindi.specs.Params.{matrixLength, encryptWork};
-ghost use Rattle.kindi.specs.Keys.{matrixSeed, secretSeed};
-ghost use Rattle.kindi.specs.Streams.{coinsStream};
+ghost use Rattle.kindi.specs.Keys.{secretSeed};
 ghost use Rattle.kindi.specs.Decrypt.{roundedCoins};
-ghost use Rattle.decryption.specs.Opened.{OpenRoom, OpenExit, maskCipher};
-ghost use Rattle.decryption.specs.Inputs.{MakeRoom};
+ghost use Rattle.decryption.specs.Opened.{SumsExit, OpenRoom, OpenExit};
+ghost use Rattle.decryption.specs.Inputs.{SumsRoom};
 use kindi::Params;
 use vectors::lengths;
 
-fn zeros() -> [u8; 3584] {
-    [0; 3584]
-}
-
-// Fills work with the matrix and the stream of the coins, and encrypts with the mask as it is.
-fn encrypt_mask(p: Params, pk: &[u8], coins: &[u8], made: &mut [u8], work: &mut [u8])
-    requires { ⌜ MakeRoom p (now pk) (now coins) (now made) (now work) ⌝ }
-    ensures { λ _. ⌜ (now (made .exit) ≡ maskCipher p (now (pk .entry)) (now (coins .entry)))
-        × (take (encryptWork p) (now (work .exit))
-        ≡ Shake·shake (p .rate) (matrixSeed p (now (pk .entry))) (matrixLength p) ++ coinsStream p (now (coins .entry))) ⌝ }
+// The stream of the coins into the work area, and in the sums a ciphertext of these coins without its errors, less the ciphertext.
+// The polynomials of A lie behind the mask, which stays.
+fn sums_less_cipher(
+    p: Params,
+    pk: &[u8],
+    ct: &[u8],
+    coins: &[u8],
+    work: &mut [u8],
+    s: &mut [u16],
+    sums: &mut [u16],
+)
+    requires { ⌜ SumsRoom p (now pk) (now ct) (now coins) (now work) (now s) (now sums) ⌝ }
+    ensures { λ _. ⌜ SumsExit p (now (pk .entry)) (now (ct .entry)) (now (coins .entry)) (now (work .exit)) (now (sums .exit)) ⌝ }
 {
-    let stream = lengths::low(p) + (lengths::padded(p) + (lengths::high(p) + lengths::rest(p)));
-    let matrix = lengths::matrix(p);
-    let need = matrix + stream;
-    let seed = lengths::stored(p);
-    hash::shake(p.rate, &pk[seed..], &mut work[..matrix]);
-    hash::shake(p.rate, coins, &mut work[matrix..need]);
-    encryption::assemble(p, pk, coins, &work[..need], made);
+    let stream = lengths::coins_stream(p);
+    let end = lengths::low(p) + lengths::padded(p);
+    hash::shake(p.rate, coins, &mut work[..stream]);
+    packing::unpack(p.k, ct, sums);
+    ring::poly::subtract_from(0, sums);
+    encryption::add_noiseless(p, pk, coins, end, work, s, sums);
 }
 
 // The recovered coins of a secret key and a ciphertext. It stands apart from `open`, and both have two callers, so that
@@ -53,8 +50,18 @@ pub fn open(p: Params, sk: &[u8], ct: &[u8], coins: &[u8], work: &mut [u8]) -> b
     ensures { λ r. ⌜ OpenExit p (now (sk .entry)) (now (ct .entry)) (now (coins .entry)) r (now (work .exit)) ⌝ }
 {
     let public = lengths::stored(p) + p.seed;
-    let cipher = lengths::ciphertext(p);
-    let mut made = zeros();
-    encrypt_mask(p, &sk[..public], coins, &mut made[..cipher], work);
-    remainders::unmask(p, ct, &made[..cipher], work)
+    let vector = p.l * p.n;
+    let all = encryption::coefficients(p);
+    let mut s = vectors::zeros();
+    let mut sums = vectors::sums();
+    sums_less_cipher(
+        p,
+        &sk[..public],
+        ct,
+        coins,
+        work,
+        &mut s[..vector],
+        &mut sums[..all],
+    );
+    remainders::unmask(p, &mut sums[..all], work)
 }

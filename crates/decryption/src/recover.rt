@@ -1,8 +1,7 @@
 // The coins found by rounding.
 ghost use mathlib.Core.Path.{_≡_};
 ghost use mathlib.Core.List.{map};
-ghost use Prim.Native.Nat.{_+_, _-_, _/_, _%_, _*_, _^_, _≤_};
-ghost use lib.ListN.{length};
+ghost use Prim.Native.Nat.{_^_, _≤_};
 ghost use Rattle.ring.specs.Poly.{residues, parts};
 ghost use Rattle.kindi.specs.Decrypt.{roundedBit, roundedCoins};
 ghost use Rattle.decryption.specs.Opened.{valueBy, coinsFrom};

@@ -13,7 +13,7 @@ use Rattle.keccak.specs.Lists.{patched}
 use Rattle.keccak.specs.Strings.{xorInto}
 use Rattle.keccak.proofs.Parts.{length-xorInto}
 use Rattle.kindi.specs.declared.Params.{Params}
-use Rattle.kindi.specs.Params.{WellFormed, paddedLength, matrixLength, lowLength}
+use Rattle.kindi.specs.Params.{WellFormed, paddedLength, lowLength}
 use Rattle.kindi.specs.Keys.{publicPart, secretSeed}
 use Rattle.kindi.specs.Encrypt.{padded}
 use Rattle.kindi.specs.Decrypt.{roundedCoins, unmasked, blank, marked, other, ending}
@@ -65,50 +65,48 @@ marked-within P xs mark len long e h one =
     let within : length (take len xs) < paddedLength P = marked-padded P xs (take len xs) long is .0 in
     rw (length-take-le len xs h) at within
 
--- The d bytes of the work area from m + l on, where the padded message lies.
-abbrev part : ℕ → ℕ → ℕ → List ℕ → List ℕ
-part m l d work = take (m + l + d - (m + l)) (drop (m + l) work)
+-- The d bytes of the work area from l on, where the padded message lies.
+abbrev part : ℕ → ℕ → List ℕ → List ℕ
+part l d work = take (l + d - l) (drop l work)
 
 -- What the code has once decryption has run: the coins found, whether every error fits, and the work area with its lengths.
-pub record Opening (P : Params) (sk ct found work : List ℕ) (fits : Bool) (m l d : ℕ) : Type 0 where
+pub record Opening (P : Params) (sk ct found work : List ℕ) (fits : Bool) (l d : ℕ) : Type 0 where
   pub well : WellFormed P
   pub coins-are : found ≡ roundedCoins P (secretSeed P sk) ct
   pub exit : OpenExit P sk ct found fits work
-  pub matrix-is : m ≡ matrixLength P
   pub low-is : l ≡ lowLength P
   pub padded-is : d ≡ paddedLength P
 
-module _ {P : Params} {sk ct found work : List ℕ} {fits : Bool} {m l d : ℕ} (h : Opening P sk ct found work fits m l d) where
-  part-opened : part m l d work ≡ opened P (publicPart P sk) found ct
+module _ {P : Params} {sk ct found work : List ℕ} {fits : Bool} {l d : ℕ} (h : Opening P sk ct found work fits l d) where
+  part-opened : part l d work ≡ opened P (publicPart P sk) found ct
   part-opened =
-      let long : m + l + d - (m + l) ≡ paddedLength P = omega (arith, h .padded-is) in
-      let from : m + l ≡ matrixLength P + lowLength P = omega (arith, h .matrix-is, h .low-is) in
-      ap₂ (λ (a b : ℕ). take a (drop b work)) long from ∙ h .exit .padded-is
+      let long : l + d - l ≡ paddedLength P = omega (arith, h .padded-is) in
+      ap₂ (λ (a b : ℕ). take a (drop b work)) long (h .low-is) ∙ h .exit .padded-is
 
-  part-long : length (part m l d work) ≡ paddedLength P
+  part-long : length (part l d work) ≡ paddedLength P
   part-long = ap length part-opened ∙ length-opened P (publicPart P sk) found ct
 
   -- Where every error fits, it is the padded message of the definition.
-  part-unmasked : not fits ≡ false → part m l d work ≡ unmasked P (publicPart P sk) found ct
+  part-unmasked : not fits ≡ false → part l d work ≡ unmasked P (publicPart P sk) found ct
   part-unmasked e = part-opened ∙ opened-fits P (h .well) (publicPart P sk) found ct (sym (h .exit .fits-is) ∙ not-false fits e)
 
 -- And once the last checks of decryption are made: how the padded message ends, and their numbers.
-pub record MessageChecks (P : Params) (sk ct found work : List ℕ) (fits : Bool) (m l d mark len unmarked status : ℕ) : Type 0 where
-  pub opening : Opening P sk ct found work fits m l d
-  pub ends : ending (part m l d work) ≡ endingOf (part m l d work) mark len
-  pub within : len ≤ length (part m l d work)
+pub record MessageChecks (P : Params) (sk ct found work : List ℕ) (fits : Bool) (l d mark len unmarked status : ℕ) : Type 0 where
+  pub opening : Opening P sk ct found work fits l d
+  pub ends : ending (part l d work) ≡ endingOf (part l d work) mark len
+  pub within : len ≤ length (part l d work)
   pub unmarked-is : unmarked ≡ cond (not (eqb mark 1)) 6 0
   pub status-is : status ≡ cond (not fits) 5 unmarked
 
-module _ {P : Params} {sk ct found work : List ℕ} {fits : Bool} {m l d mark len unmarked status : ℕ}
-    (h : MessageChecks P sk ct found work fits m l d mark len unmarked status) where
+module _ {P : Params} {sk ct found work : List ℕ} {fits : Bool} {l d mark len unmarked status : ℕ}
+    (h : MessageChecks P sk ct found work fits l d mark len unmarked status) where
   -- The status of the last checks of decryption.
-  message-checked : Checked (decryptFitting P sk ct) (answered (record { coins = found; message = take len (part m l d work) })) status
+  message-checked : Checked (decryptFitting P sk ct) (answered (record { coins = found; message = take len (part l d work) })) status
   unfolding decryptFitting
   message-checked =
       rw (h .status-is, h .unmarked-is, ← h .opening .coins-are, ← h .opening .exit .fits-is)
       (check-before (not fits) 5 (omega arith) (λ fit.
-      rw (← part-unmasked (h .opening) fit, h .ends, plain-ending found (part m l d work) mark len)
+      rw (← part-unmasked (h .opening) fit, h .ends, plain-ending found (part l d work) mark len)
       (check-first (not (eqb mark 1)) 6 (omega arith) unchecked)))
 
   -- A refusal.
@@ -128,25 +126,25 @@ module _ {P : Params} {sk ct found work : List ℕ} {fits : Bool} {m l d mark le
   message-short e =
       let c1 = zero-check (not fits) 5 (omega arith) (sym (h .status-is) ∙ e) in
       let c2 = zero-check (not (eqb mark 1)) 6 (omega arith) (sym (h .unmarked-is) ∙ c1 .1) in
-      marked-within P (part m l d work) mark len (part-long (h .opening)) (h .ends) (h .within) (eqb-true mark 1 (not-false _ (c2 .0)))
+      marked-within P (part l d work) mark len (part-long (h .opening)) (h .ends) (h .within) (eqb-true mark 1 (not-false _ (c2 .0)))
 
   -- Success.
   pub message-answered : (coins message : List ℕ) {coins' message' : List ℕ} → status ≡ 0 → coins' ≡ found
-      → message' ≡ messageOutput (length message) (take (m + l + len - (m + l)) (drop (m + l) work))
+      → message' ≡ messageOutput (length message) (take (l + len - l) (drop l work))
       → MessageExit (decryptFitting P sk ct) coins message 0 coins' message' len
   message-answered coins message e is-coins is-message =
       let is = message-checked .goes-on e in
-      let within : len ≤ m + l + d - (m + l) = omega (arith, message-short e, h .opening .padded-is) in
-      let count : m + l + len - (m + l) ≡ len = omega arith in
-      let taken : take (m + l + len - (m + l)) (drop (m + l) work) ≡ take len (part m l d work) =
-      ap (λ (n : ℕ). take n (drop (m + l) work)) count ∙ sym (take-take len (m + l + d - (m + l)) (drop (m + l) work) within)
+      let within : len ≤ l + d - l = omega (arith, message-short e, h .opening .padded-is) in
+      let count : l + len - l ≡ len = omega arith in
+      let taken : take (l + len - l) (drop l work) ≡ take len (part l d work) =
+      ap (λ (n : ℕ). take n (drop l work)) count ∙ sym (take-take len (l + d - l) (drop l work) within)
       in
       record {
         number-is = answered-number is;
         coins-are = is-coins ∙ given (λ (v : Plain). v .coins) coins is;
         message-is = is-message ∙ ap (messageOutput (length message)) taken
             ∙ given (λ (v : Plain). messageOutput (length message) (v .message)) message is;
-        length-is = sym (length-take-le len (part m l d work) (h .within)) ∙ given-returned (λ (v : Plain). length (v .message)) is;
+        length-is = sym (length-take-le len (part l d work) (h .within)) ∙ given-returned (λ (v : Plain). length (v .message)) is;
       }
 
 -- ---- decaps
@@ -158,32 +156,32 @@ part-patched a k ys xs e h =
 
 -- The same of decapsulation: the digest of the coins, its padded message added to the one in the work area, whether that leaves
 -- zeros, and the numbers of the checks.
-pub record KeyChecks (P : Params) (sk ct found work : List ℕ) (fits : Bool) (m l d : ℕ) (hashed added : List ℕ) (equal : Bool)
+pub record KeyChecks (P : Params) (sk ct found work : List ℕ) (fits : Bool) (l d : ℕ) (hashed added : List ℕ) (equal : Bool)
     (differs status : ℕ) : Type 0 where
-  pub opening : Opening P sk ct found work fits m l d
+  pub opening : Opening P sk ct found work fits l d
   pub digest-is : hashed ≡ digest P found
-  pub added-is : added ≡ xorInto (part m l d work) (hashed ++ (1 ∷ []))
-  pub equal-is : equal ≡ allZero (part m l d (patched (m + l) (m + l + d - (m + l)) added work))
+  pub added-is : added ≡ xorInto (part l d work) (hashed ++ (1 ∷ []))
+  pub equal-is : equal ≡ allZero (part l d (patched l (l + d - l) added work))
   pub differs-is : differs ≡ cond (not equal) 7 0
   pub status-is : status ≡ cond (not fits) 5 differs
 
-module _ {P : Params} {sk ct found work : List ℕ} {fits : Bool} {m l d : ℕ} {hashed added : List ℕ} {equal : Bool}
-    {differs status : ℕ} (h : KeyChecks P sk ct found work fits m l d hashed added equal differs status) where
+module _ {P : Params} {sk ct found work : List ℕ} {fits : Bool} {l d : ℕ} {hashed added : List ℕ} {equal : Bool}
+    {differs status : ℕ} (h : KeyChecks P sk ct found work fits l d hashed added equal differs status) where
   -- What is read back is what was added.
-  read-back : part m l d (patched (m + l) (m + l + d - (m + l)) added work) ≡ added
+  read-back : part l d (patched l (l + d - l) added work) ≡ added
   read-back =
       let long = part-long (h .opening) in
-      let count : length added ≡ m + l + d - (m + l) =
+      let count : length added ≡ l + d - l =
       ap length (h .added-is) ∙ length-xorInto _ _ ∙ long ∙ omega (arith, h .opening .padded-is)
       in
-      part-patched (m + l) (m + l + d - (m + l)) added work count
+      part-patched l (l + d - l) added work count
       (omega (arith, h .opening .well .digest-fits, h .opening .padded-is, simp (length-take, length-drop) at long))
 
   -- The status of the last checks of decapsulation.
   key-checked : Checked (decapsFitting P sk ct) (answered (sharedKey P found ct)) status
   unfolding decapsFitting
   key-checked =
-      let its = part m l d work in
+      let its = part l d work in
       let short : length (digest P found) < paddedLength P = rw (length-digest P found) (h .opening .well .digest-fits) in
       let same-is : same its (padded P (digest P found)) ≡ equal =
       same-padded P its (digest P found) (part-long (h .opening)) short

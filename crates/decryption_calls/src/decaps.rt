@@ -41,7 +41,7 @@ fn open_key(
     decryption::recover_coins(p, sk, ct, found, work);
     let fits = decryption::open(p, sk, ct, found, work);
     kem::digest(p, found, d);
-    let at = lengths::matrix(p) + lengths::low(p);
+    let at = lengths::low(p);
     let end = at + lengths::padded(p);
     cipher_terms::add_padded(d, &mut work[at..end]);
     let equal = padding::all_zero(&work[at..end]);

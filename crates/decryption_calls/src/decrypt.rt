@@ -54,7 +54,7 @@ fn open_message(
 {
     decryption::recover_coins(p, sk, ct, found, work);
     let fits = decryption::open(p, sk, ct, found, work);
-    let at = lengths::matrix(p) + lengths::low(p);
+    let at = lengths::low(p);
     let end = at + lengths::padded(p);
     let ended = padding::ending(&work[at..end]);
     let len = ended.len;

@@ -1,4 +1,3 @@
 -- The laws that the proofs of `encryption` share.
-pub mod Expanding
+pub mod Sums
 pub mod Cipher
-pub mod Assembly

@@ -1,27 +1,30 @@
--- What the functions of `encryption` ask of their slices: lengths. Rests on the definitions of `kindi`.
+-- What the functions of `encryption` ask of their slices: lengths, and the stream of the coins. Rests on the definitions of `kindi`.
 use mathlib.Core.Path.{_≡_}
 use mathlib.Core.List.{List}
-use Prim.Native.Nat.{ℕ, _*_, _≤_, _<_}
-use lib.ListN.{length}
+use Prim.Native.Nat.{ℕ, _+_, _*_, _≤_, _<_}
+use lib.ListN.{length, take}
 use Rattle.kindi.specs.declared.Params.{Params}
-use Rattle.kindi.specs.Params.{WellFormed, storedLength, publicLength, ciphertextLength, paddedLength, encryptWork}
-use Rattle.cipher_terms.specs.Inputs.{FactorRoom}
+use Rattle.kindi.specs.Params.{WellFormed, publicLength, ciphertextLength, paddedLength, coinsStreamLength, polynomialLength, encryptWork}
+use Rattle.cipher_terms.specs.Inputs.{StreamOf}
 
--- What a factor of s takes, with the masked message, s, a sum and the ciphertext.
-pub record CipherRoom (P : Params) (pk rows low masked s f acc ct : List ℕ) : Type 0 where
-  pub factors : FactorRoom P pk rows low f
-  pub masked-long : length masked ≡ paddedLength P
-  pub secret-long : length s ≡ P .l * P .n
-  pub sum : length acc ≡ P .n
-  pub cipher-long : length ct ≡ ciphertextLength P
-
--- A public key, coins, the streams, and a ciphertext.
-pub record AssembleRoom (P : Params) (pk coins streams ct : List ℕ) : Type 0 where
+-- A public key, coins, a work area that begins with their stream and has room for a polynomial of A from a place on, room for s,
+-- and ℓ + 1 sums.
+pub record NoiselessRoom (P : Params) (pk coins : List ℕ) (at : ℕ) (work s sums : List ℕ) : Type 0 where
   pub well : WellFormed P
-  pub stored-there : storedLength P ≤ length pk
+  pub public-long : length pk ≡ publicLength P
   pub coins-long : length coins ≡ P .coins
-  pub streams-long : length streams ≡ encryptWork P
-  pub cipher-long : length ct ≡ ciphertextLength P
+  pub stream-fits : coinsStreamLength P ≤ length work
+  pub stream : StreamOf P coins (take (coinsStreamLength P) work)
+  pub polynomial-fits : at + polynomialLength P ≤ length work
+  pub secret-long : length s ≡ P .l * P .n
+  pub sums-long : length sums ≡ (P .l + 1) * P .n
+
+-- A message, room for ℓ + 1 polynomials, and a work area that has room for the stream of the coins.
+pub record ErrorsRoom (P : Params) (message errors work : List ℕ) : Type 0 where
+  pub well : WellFormed P
+  pub message-fits : length message < paddedLength P
+  pub errors-long : length errors ≡ (P .l + 1) * P .n
+  pub stream-fits : coinsStreamLength P ≤ length work
 
 -- The arguments of encryption.
 pub record EncryptRoom (P : Params) (pk coins message ct work : List ℕ) : Type 0 where

@@ -1,3 +1,4 @@
 -- What the contracts of `encryption` say.
-pub mod Layout
 pub mod Inputs
+pub mod Errors
+pub mod Noiseless

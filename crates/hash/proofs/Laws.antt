@@ -5,8 +5,8 @@ use mathlib.Core.List.{List, _++_, append-assoc}
 use Prim.Native.Nat.{ℕ, _+_, _-_, _/_, _%_, _≤_, _<_}
 use native.Mathlib.Nat.{zero-add}
 use native.Mathlib.Omega.{arith}
-use lib.ListN.{length, take, drop, replicate}
-use lib.Seq.{ext-getD, take-at, drop-at}
+use lib.ListN.{length, drop, replicate}
+use lib.Seq.{ext-getD, drop-at}
 use Rattle.hash.proofs.Blocks.{start, finished-is, outputByte, squeezed-at}
 use Rattle.keccak.proofs.Entries.{tabulate-at, tabulate-add, length-tabulate}
 use Rattle.hash.proofs.Octets.{bytes-zeros, bytes-absorbBlocks, bytes-permutes}
@@ -69,13 +69,6 @@ shake-from-add r m i n k =
 pub length-shake-from : (r : ℕ) (m : List ℕ) (i n : ℕ) → length (shakeFrom r m i n) ≡ n
 unfolding shakeFrom
 length-shake-from r m i n = length-tabulate n _
-
--- The output of a longer request begins with that of a shorter one.
-pub shake-prefix : (r : ℕ) (m : List ℕ) (n k : ℕ) → n ≤ k → take n (shake r m k) ≡ shake r m n
-shake-prefix r m n k h =
-    let parts : k ≡ n + (k - n) = omega arith in
-    ap (λ (x : ℕ). take n (shake r m x)) parts ∙ ap (take n) (shake-split r m n (k - n))
-    ∙ take-at (shake r m n) (shakeFrom r m n (k - n)) n (length-shake r m n)
 
 -- A sponge that has given i bytes goes on with those from place i.
 pub squeezed-from : (r : ℕ) (m : List ℕ) (i n : ℕ) → 0 < r → r ≤ 200

@@ -1,3 +1,3 @@
--- What the contracts of `hash` say: FIPS 202's sponge and the two SHAKEs.
+-- What the contracts of `hash` say: FIPS 202's sponge, and SHAKE by its rate.
 pub mod Shake
 pub mod Stream

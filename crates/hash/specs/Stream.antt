@@ -6,7 +6,7 @@ use mathlib.Core.List.{List, [], _∷_}
 use Prim.Native.Nat.{ℕ, zero, suc, _+_, _≤_, _<_}
 use lib.Bits.{bitXor}
 use lib.Dec.{eqb}
-use lib.ListN.{length, getD, set, replicate}
+use lib.ListN.{getD, set, replicate}
 use Rattle.keccak.specs.Strings.{permute}
 use Rattle.hash.specs.Shake.{padding}
 use Rattle.hash.specs.declared.sponge.Sponge.{Sponge}

@@ -1,3 +1,3 @@
 -- What the contracts of `keys` say.
-pub mod Layout
+pub mod Stored
 pub mod Inputs

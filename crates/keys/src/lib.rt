@@ -1,102 +1,95 @@
 // Keygen over any well-formed parameters, on slices of the right lengths (01: key making).
 ghost use mathlib.Core.Path.{_≡_};
 ghost use mathlib.Core.List.{map};
-ghost use Prim.Native.Nat.{_-_, _*_, _<_};
-ghost use lib.ListN.{length};
+ghost use Prim.Native.Nat.{_+_, _-_};
+ghost use lib.ListN.{take};
+ghost use Rattle.hash.specs.Shake.{shake};
 ghost use Rattle.bits.specs.Bits.{pack as Bits·pack, lowBits};
-ghost use Rattle.ring.specs.Poly.{residues};
-ghost use Rattle.kindi.specs.Params.{WellFormed, modulus, lengthOf, keygenWork};
-ghost use Rattle.kindi.specs.Streams.{matrixIn, smallIn};
-ghost use Rattle.kindi.specs.Keys.{compress as Keys·compress, joined, publicBy, publicKey, secretKey};
-ghost use Rattle.vectors.specs.Vectors.{vector, sumPart, Rows};
-ghost use Rattle.keys.specs.Layout.{storedFrom};
-ghost use Rattle.keys.specs.Inputs.{PublicRoom, KeygenRoom};
+ghost use Rattle.kindi.specs.Params.{secretsLength};
+ghost use Rattle.kindi.specs.Streams.{smallIn};
+ghost use Rattle.kindi.specs.Keys.{compress as Keys·compress, public, publicKey, secretKey};
+ghost use Rattle.vectors.specs.Vectors.{vector};
+ghost use Rattle.keys.specs.Stored.{storedOf};
+ghost use Rattle.keys.specs.Inputs.{SecretsRoom, VectorRoom, StoredRoom, PublicRoom, KeygenRoom};
 use kindi::Params;
 use vectors::lengths;
 
-// The sum of f_i·r_i and errors, modulo q, without its low t bits, in k − t bits.
-fn public_part(
-    p: Params,
-    t: u32,
-    errors: &[u8],
-    f: &[u16],
-    r: &[u16],
-    acc: &mut [u16],
-    dst: &mut [u8],
-)
-    requires { ⌜ (Rows p (now errors) (now f) (now r) (now acc)) × (t < p .k) × (length (now dst) ≡ lengthOf p 1 (p .k - t)) ⌝ }
-    ensures { λ _. ⌜ now (dst .exit) ≡ Bits·pack (p .k - t) (map (Keys·compress t)
-        (lowBits (p .k) (sumPart p (now (errors .entry)) (now (f .entry)) (now (r .entry))))) ⌝ }
+// r and r' from the stream of γ.
+fn read_secrets(p: Params, stream: &[u8], r: &mut [u16], sums: &mut [u16])
+    requires { ⌜ SecretsRoom p (now stream) (now r) (now sums) ⌝ }
+    ensures { λ _. ⌜ (now (r .exit) ≡ vector (p .l) (p .n) (smallIn p (now (stream .entry))))
+        × (now (sums .exit) ≡ vector (p .l) (p .n) (λ i. smallIn p (now (stream .entry)) (p .l + i))) ⌝ }
 {
-    vectors::sum_part(p, errors, f, r, acc);
-    bits::reduce(acc, p.k);
-    vectors::compress(acc, t);
-    packing::pack(p.k - t, acc, dst);
+    let w = lengths::width(p);
+    let at = lengths::length_of(p, p.l, w);
+    vectors::small(w, stream, p.p, r);
+    vectors::small(w, &stream[at..], p.p, sums);
 }
 
-// b without its low t bits, polynomial by polynomial.
-fn public_parts(
+// b modulo 2^16, in sums. The polynomials of A lie in the work area from `at` on, over the stream of γ, which is not read any
+// more, or behind it, where it is still wanted; a has room for one of them.
+fn public_vector(
     p: Params,
-    t: u32,
-    rows: &[u8],
-    secrets: &[u8],
-    r: &[u16],
-    f: &mut [u16],
-    acc: &mut [u16],
-    dst: &mut [u8],
+    mu: &[u8],
+    gamma: &[u8],
+    at: usize,
+    work: &mut [u8],
+    a: &mut [u16],
+    r: &mut [u16],
+    sums: &mut [u16],
 )
-    requires { ⌜ (PublicRoom p t (now rows) (now secrets) (now r) (now f) (now acc) (now dst))
-        × (now r ≡ vector (p .l) (p .n) (smallIn p (now secrets))) ⌝ }
-    ensures { λ _. ⌜ now (dst .exit) ≡ joined (p .l) (λ i. Bits·pack (p .k - t) (map (Keys·compress t)
-        (residues (modulus p) (p .n) (publicBy p (matrixIn p (now (rows .entry))) (smallIn p (now (secrets .entry))) i)))) ⌝ }
+    requires { ⌜ VectorRoom p at (now work) (now a) (now r) (now sums) ⌝ }
+    ensures { λ _. ⌜ (now (sums .exit) ≡ vector (p .l) (p .n) (public p (now (mu .entry)) (now (gamma .entry))))
+        × (take at (now (work .exit)) ≡ take at (shake (p .rate) (now (gamma .entry)) (secretsLength p))) ⌝ }
 {
-    let row = lengths::length_of(p, p.l, p.k);
-    let error = lengths::length_of(p, 1, lengths::width(p));
-    let part = lengths::length_of(p, 1, p.k - t);
-    let mut row_at = 0;
-    let mut error_at = lengths::length_of(p, p.l, lengths::width(p));
-    let mut at = 0;
-    let mut i = 0;
-    while i < p.l {
-        packing::unpack(p.k, &rows[row_at..], f);
-        public_part(
-            p,
-            t,
-            &secrets[error_at..],
-            f,
-            r,
-            acc,
-            &mut dst[at..at + part],
-        );
-        row_at += row;
-        error_at += error;
-        at += part;
-        i += 1;
-    }
+    let secrets = lengths::secrets(p);
+    let end = at + lengths::polynomial(p);
+    hash::shake(p.rate, gamma, &mut work[..secrets]);
+    read_secrets(p, &work[..secrets], r, sums);
+    matrix::add_product(p, mu, false, r, &mut work[at..end], a, sums);
 }
 
-// b without its low t bits, in k − t bits, from the matrix and the stream of γ: what a key stores, and at t = 0 b in full.
-pub fn public_polynomials(p: Params, t: u32, streams: &[u8], dst: &mut [u8])
-    requires { ⌜ (WellFormed p) × (t < p .k) × (length (now streams) ≡ keygenWork p) × (length (now dst) ≡ lengthOf p (p .l) (p .k - t)) ⌝ }
-    ensures { λ _. ⌜ now (dst .exit) ≡ storedFrom p t (now (streams .entry)) ⌝ }
+// The sums modulo q without their low t bits, in k − t bits.
+fn store(p: Params, t: u32, sums: &mut [u16], dst: &mut [u8])
+    requires { ⌜ StoredRoom p t (now sums) (now dst) ⌝ }
+    ensures { λ _. ⌜ now (dst .exit) ≡ Bits·pack (p .k - t) (map (Keys·compress t) (lowBits (p .k) (now (sums .entry)))) ⌝ }
+{
+    bits::reduce(sums, p.k);
+    vectors::compress(sums, t);
+    packing::pack(p.k - t, sums, dst);
+}
+
+// b without its low t bits, in k − t bits: what a key stores, and at t = 0 b in full. The first `at` bytes of the stream of γ
+// stay in the work area.
+pub fn public_polynomials(
+    p: Params,
+    t: u32,
+    mu: &[u8],
+    gamma: &[u8],
+    at: usize,
+    work: &mut [u8],
+    dst: &mut [u8],
+)
+    requires { ⌜ PublicRoom p t at (now work) (now dst) ⌝ }
+    ensures { λ _. ⌜ (now (dst .exit) ≡ storedOf p t (now (mu .entry)) (now (gamma .entry)))
+        × (take at (now (work .exit)) ≡ take at (shake (p .rate) (now (gamma .entry)) (secretsLength p))) ⌝ }
 {
     let n = p.n;
     let vector = p.l * n;
-    let matrix = lengths::matrix(p);
+    let mut a = vectors::polynomial();
     let mut r = vectors::zeros();
-    let mut f = vectors::zeros();
-    let mut acc = vectors::polynomial();
-    vectors::small(lengths::width(p), &streams[matrix..], p.p, &mut r[..vector]);
-    public_parts(
+    let mut sums = vectors::zeros();
+    public_vector(
         p,
-        t,
-        &streams[..matrix],
-        &streams[matrix..],
-        &r[..vector],
-        &mut f[..vector],
-        &mut acc[..n],
-        dst,
+        mu,
+        gamma,
+        at,
+        work,
+        &mut a[..n],
+        &mut r[..vector],
+        &mut sums[..vector],
     );
+    store(p, t, &mut sums[..vector], dst);
 }
 
 // Both keys.
@@ -113,14 +106,10 @@ pub fn keygen(
     ensures { λ _. ⌜ (now (pk .exit) ≡ publicKey p (now (mu .entry)) (now (gamma .entry)))
         × (now (sk .exit) ≡ secretKey p (now (mu .entry)) (now (gamma .entry)) (now (z .entry))) ⌝ }
 {
-    let matrix = lengths::matrix(p);
-    let need = matrix + lengths::secrets(p);
     let stored = lengths::stored(p);
     let public = stored + p.seed;
     let end = public + p.seed;
-    hash::shake(p.rate, mu, &mut work[..matrix]);
-    hash::shake(p.rate, gamma, &mut work[matrix..need]);
-    public_polynomials(p, p.t, &work[..need], &mut pk[..stored]);
+    public_polynomials(p, p.t, mu, gamma, 0, work, &mut pk[..stored]);
     keccak::strings::copy(&mut pk[stored..], mu);
     keccak::strings::copy(&mut sk[..public], pk);
     keccak::strings::copy(&mut sk[public..end], gamma);

@@ -1,18 +1,23 @@
--- 01's table of lengths, by computation, and its limit of work areas, with the laws of lengths that it takes. Assumes nothing.
+-- 01's table of lengths and that of work areas, by computation, and the limit of these, with the laws of lengths that it takes. Assumes nothing.
 use mathlib.Core.Path.{_≡_}
 use Prim.Native.Nat.{ℕ, _+_, _*_, _/_, _≤_}
 use native.Mathlib.Nat.{le-refl, mul-assoc, mul-le-mul, mul-le-mul-left}
 use native.Mathlib.Omega.{arith}
 use lib.Count.{trailingZeros}
 use Rattle.kindi.specs.declared.Params.{Params}
-use Rattle.kindi.specs.Params.{WellFormed, lengthOf, ciphertextLength, paddedLength, matrixLength, secretsLength}
+use Rattle.kindi.specs.Params.{WellFormed, lengthOf, ciphertextLength, paddedLength, polynomialLength, secretsLength}
 use Rattle.kindi.specs.Params.{width, lowLength, highLength, restLength, coinsStreamLength, ofSet}
-use Rattle.kindi.specs.Lengths.{LengthsOfSets, WorkAreas}
+use Rattle.kindi.specs.Lengths.{LengthsOfSets, AreasOfSets, WorkAreas}
 
 -- The lengths of the four sets are those of 01's table.
 pub lengths : LengthsOfSets
 unfolding ofSet lengthOf trailingZeros
 lengths = search arith
+
+-- The work areas of the four sets are those of the table.
+pub areas : AreasOfSets
+unfolding ofSet lengthOf trailingZeros
+areas = search arith
 
 -- a times b polynomials have a times the length of b.
 length-product : (P : Params) (a b w : ℕ) → lengthOf P (a * b) w ≡ a * lengthOf P b w
@@ -24,9 +29,9 @@ pub length-mono : (P : Params) {a b v w : ℕ} → a ≤ b → v ≤ w → lengt
 unfolding lengthOf
 length-mono P h l = mul-le-mul h (mul-le-mul-left (P .n / 8) l)
 
--- The matrix is no longer than eight ciphertexts: a row of it is no longer than one.
-matrix-short : (P : Params) → WellFormed P → matrixLength P ≤ 8 * ciphertextLength P
-matrix-short P W = rw (length-product P (P .l) (P .l) (P .k)) (mul-le-mul (W .few) (length-mono P (omega arith) (le-refl (P .k))))
+-- A polynomial of A is no longer than a ciphertext.
+polynomial-short : (P : Params) → polynomialLength P ≤ ciphertextLength P
+polynomial-short P = length-mono P (omega arith) (le-refl (P .k))
 
 -- The stream of γ is no longer than two padded messages: each of its halves is no longer than one.
 secrets-short : (P : Params) → secretsLength P ≤ 2 * paddedLength P
@@ -42,4 +47,4 @@ coins-stream-short P W =
 
 -- The work areas of well-formed parameters are within 01's limit.
 pub work-areas : (P : Params) → WellFormed P → WorkAreas P
-work-areas P W = search (arith, matrix-short P W, secrets-short P, coins-stream-short P W)
+work-areas P W = search (arith, polynomial-short P, secrets-short P, coins-stream-short P W)

@@ -29,5 +29,7 @@ pub use Rattle.kindi.proofs.Recipients.{each-own}
 pub use Rattle.kindi.proofs.Recipients.{clear-each-returns}
 -- Refusal 14 is exactly that some two recipients have equal coins, where the checks before it are passed.
 pub use Rattle.kindi.proofs.Recipients.{each-equal-iff}
+-- The work areas of the four sets have the lengths of the table.
+pub use Rattle.kindi.proofs.Lengths.{areas}
 -- The examples of 01.
 pub use Rattle.kindi.proofs.Examples.{examples}

@@ -33,11 +33,8 @@ unfoldable pub decompressed : Params → List ℕ → List ℕ → ℕ → Poly
 decompressed P pk coins = decompressedBy P pk (lowPart P coins)
 
 -- What meets s in polynomial j of the ciphertext: column j of A, and P for the last one.
-abbrev pub factorBy : Params → List ℕ → (ℕ → ℕ → Poly) → (ℕ → Poly) → ℕ → ℕ → Poly
-factorBy P pk A w j = cond (ltb j (P .l)) (transposed A j) (decompressedBy P pk w)
-
 unfoldable pub factor : Params → List ℕ → List ℕ → ℕ → ℕ → Poly
-factor P pk coins = factorBy P pk (matrix P (matrixSeed P pk)) (lowPart P coins)
+factor P pk coins j = cond (ltb j (P .l)) (transposed (matrix P (matrixSeed P pk)) j) (decompressed P pk coins)
 
 -- Polynomial j of the ciphertext without its errors: the sum of A_ij·s_i, and of P_i·s_i for the last one.
 unfoldable pub noiseless : Params → List ℕ → List ℕ → ℕ → Poly

@@ -1,7 +1,7 @@
 -- The parameter sets (01, "Parameter sets"): one record, and all that follows from it. Rests on the struct `Params` of src/.
 use mathlib.Core.Path.{_≡_}
 use mathlib.Core.Bool.{Bool, cond, _&&_}
-use Prim.Native.Nat.{ℕ, _+_, _-_, _*_, _/_, _^_, _≤_, _<_}
+use Prim.Native.Nat.{ℕ, _+_, _-_, _*_, _/_, _^_, _≤_, _<_, max}
 use lib.Count.{trailingZeros}
 use lib.Dec.{eqb, leb}
 use Rattle.kindi.specs.declared.Params.{Params}
@@ -40,7 +40,10 @@ ciphertextLength P = lengthOf P (P .l + 1) (P .k)
 abbrev pub paddedLength : Params → ℕ
 paddedLength P = lengthOf P (P .l + 1) (width P)
 
--- Lengths in bytes of the streams from μ, from γ and from the coins.
+-- Lengths in bytes of one polynomial of A, and of the streams from μ, from γ and from the coins.
+abbrev pub polynomialLength : Params → ℕ
+polynomialLength P = lengthOf P 1 (P .k)
+
 abbrev pub matrixLength : Params → ℕ
 matrixLength P = lengthOf P (P .l * P .l) (P .k)
 
@@ -59,18 +62,19 @@ restLength P = lengthOf P (P .l - 1) (width P)
 abbrev pub coinsStreamLength : Params → ℕ
 coinsStreamLength P = lowLength P + (paddedLength P + (highLength P + restLength P))
 
--- Lengths in bytes of the work areas.
+-- Lengths in bytes of the work areas: a polynomial of A lies where a stream lay that is not read any more, in decryption behind
+-- the mask, in the noise where the stream of the coins comes.
 abbrev pub keygenWork : Params → ℕ
-keygenWork P = matrixLength P + secretsLength P
+keygenWork P = max (secretsLength P) (polynomialLength P)
 
 abbrev pub encryptWork : Params → ℕ
-encryptWork P = matrixLength P + coinsStreamLength P
+encryptWork P = max (coinsStreamLength P) (polynomialLength P)
 
 abbrev pub decryptWork : Params → ℕ
-decryptWork P = encryptWork P
+decryptWork P = (lowLength P + paddedLength P) + max (highLength P + restLength P) (polynomialLength P)
 
 abbrev pub noiseWork : Params → ℕ
-noiseWork P = keygenWork P + coinsStreamLength P
+noiseWork P = secretsLength P + max (coinsStreamLength P) (polynomialLength P)
 
 -- The four sets.
 abbrev pub set1 : Params

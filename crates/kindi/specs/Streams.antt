@@ -2,14 +2,14 @@
 -- coefficients count from 0. Rests on Params, on hash's SHAKE and on the ring's bit strings.
 use mathlib.Core.List.{List}
 use Prim.Native.Nat.{ℕ, zero, suc, _+_, _-_, _*_, _/_, _%_, _^_}
-use lib.IntN.{pos}
 use lib.ListN.{take, drop}
 use Rattle.keccak.specs.Lists.{value}
-use Rattle.hash.specs.Shake.{shake}
+use Rattle.hash.specs.Shake.{shake, shakeFrom}
+use Rattle.bits.specs.Bits.{unpack}
 use Rattle.ring.specs.Integers.{centred}
-use Rattle.ring.specs.Poly.{Poly}
+use Rattle.ring.specs.Poly.{Poly, ofNats}
 use Rattle.kindi.specs.declared.Params.{Params}
-use Rattle.kindi.specs.Params.{width, highWidth, lowLength, paddedLength, highLength, matrixLength, secretsLength, coinsStreamLength}
+use Rattle.kindi.specs.Params.{width, highWidth, lengthOf, lowLength, paddedLength, highLength, polynomialLength, secretsLength, coinsStreamLength}
 
 -- Coefficient x of polynomial m in a string of polynomials of n coefficients of w bits each.
 unfoldable pub coefficient : ℕ → ℕ → List ℕ → ℕ → ℕ → ℕ
@@ -19,12 +19,14 @@ coefficient w n bytes m x = value 8 bytes / 2 ^ (w * (m * n + x)) % 2 ^ w
 abbrev pub smallIn : Params → List ℕ → ℕ → Poly
 smallIn P bytes m x = centred (P .p) (coefficient (width P) (P .n) bytes m x)
 
--- From μ: polynomial (i, j) of the matrix A, row by row, k bits a coefficient.
-abbrev pub matrixIn : Params → List ℕ → ℕ → ℕ → Poly
-matrixIn P bytes i j x = pos (coefficient (P .k) (P .n) bytes (i * P .l + j) x)
+-- From μ: the coefficients of polynomial number m of its stream, k bits each.
+unfoldable pub matrixList : Params → List ℕ → ℕ → List ℕ
+matrixList P μ m = unpack (P .k) (P .n) (shakeFrom (P .rate) μ (lengthOf P m (P .k)) (polynomialLength P))
 
+-- Polynomial (i, j) of the matrix A, row by row. The law `matrix-whole`: its coefficients are those of polynomial i·ℓ + j of the
+-- whole stream.
 unfoldable pub matrix : Params → List ℕ → ℕ → ℕ → Poly
-matrix P μ = matrixIn P (shake (P .rate) μ (matrixLength P))
+matrix P μ i j = ofNats (matrixList P μ (i * P .l + j))
 
 -- From γ: r_1 to r_ℓ, then r'_1 to r'_ℓ, each value less p.
 unfoldable pub keySecret : Params → List ℕ → ℕ → Poly

@@ -14,9 +14,10 @@ use Rattle.ring.specs.Integers.{centred}
 use Rattle.ring.proofs.Integers.{natAbs-add, natAbs-neg}
 use Rattle.ring.proofs.Sizes.{abs-centred, fits-abs}
 use Rattle.kindi.specs.declared.Params.{Params}
-use Rattle.kindi.specs.Params.{WellFormed, modulus, width, highWidth, lengthOf, storedLength}
+use Rattle.kindi.specs.Params.{WellFormed, modulus, width, highWidth, lengthOf}
 use Rattle.kindi.specs.Streams.{coefficient, smallIn, lowIn, ephemeralBy}
-use Rattle.kindi.proofs.Strings.{coefficient-below, tabulate-below, whole-bytes}
+use Rattle.kindi.proofs.Strings.{coefficient-below, tabulate-below}
+use Rattle.vectors.proofs.Amounts.{part-bound}
 use Rattle.noise.specs.Terms.{keyNoiseIn}
 use Rattle.noise.proofs.Products.{Sized}
 
@@ -150,12 +151,10 @@ pub values-below : (b w n : ℕ) (bytes : List ℕ) (m : ℕ) → 2 ^ w ≤ b �
 values-below b w n bytes m h =
     tabulate-below b n (coefficient w n bytes m) (lt-of-lt-of-le (pow-pos w) h) (λ x _. lt-of-lt-of-le (coefficient-below w n bytes m x) h)
 
--- Stored polynomials fit 3,072 bytes.
-pub stored-short : (P : Params) → WellFormed P → storedLength P ≤ 3072
-stored-short P W =
-    let narrow : P .k - P .t ≤ 16 = omega (arith, W .word) in
-    let most : (P .k - P .t) * (P .l * P .n) ≤ 16 * 1536 = mul-le-mul narrow (W .vector) in
-    omega (arith, whole-bytes P W (P .l) (P .k - P .t))
+-- A stored polynomial fits 1,024 bytes.
+pub stored-short : (P : Params) → WellFormed P → lengthOf P 1 (P .k - P .t) ≤ 1024
+unfolding lengthOf
+stored-short P W = rw (one-mul (P .n / 8 * (P .k - P .t))) (part-bound P W (omega (arith, W .word)))
 
 -- −q/4 fits 32 bits.
 pub quarter-fits : (P : Params) → WellFormed P → SFits w32 (pos 0 -ℤ pos (modulus P / 4))

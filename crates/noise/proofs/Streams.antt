@@ -1,19 +1,18 @@
 -- Laws of the streams of γ and of the coins in the work area: the masked message in its place, and the noise of what stands
 -- there. Assumes nothing.
 use mathlib.Core.Path.{_≡_, refl, sym, ap, ap₂, _∙_}
-use mathlib.Core.List.{List, [], _∷_, _++_}
+use mathlib.Core.List.{List, _++_}
 use Prim.Native.Nat.{ℕ, _+_, _-_, _%_, _^_, _≤_, _<_}
 use native.Mathlib.Nat.{add-assoc, add-sub-cancel-left}
 use native.Mathlib.Omega.{arith}
 use lib.IntN.{ℤ, pos, negℤ, _+ℤ_, _-ℤ_, +ℤ-idl, +ℤ-comm, +ℤ-assoc}
 use lib.ListN.{length, take, drop, replicate, length-take, length-append}
 use lib.Pow.{pow-pos}
-use lib.Seq.{length-take-le, take-at, take-add, drop-at, drop-drop}
+use lib.Seq.{take-all, length-take-le, take-at, take-add, drop-at, drop-drop}
 use Rattle.keccak.specs.Lists.{tabulate, patched}
-use Rattle.keccak.specs.Strings.{xorInto}
 use Rattle.hash.specs.Shake.{shake}
 use Rattle.keccak.proofs.Entries.{length-tabulate}
-use Rattle.keccak.proofs.Parts.{length-patched, take-rest}
+use Rattle.keccak.proofs.Parts.{length-patched, take-patched, take-rest}
 use Rattle.hash.proofs.Laws.{length-shake}
 use Rattle.bits.proofs.Filling.{tabulate-ext, tabulate-constant}
 use Rattle.ring.specs.Integers.{residue}
@@ -21,16 +20,15 @@ use Rattle.ring.specs.Poly.{Poly, plus, minus, dot, ofInts, residues}
 use Rattle.ring.proofs.Ring.{dot-ext}
 use Rattle.ring.proofs.Residues.{residues-at, residues-below, length-residues}
 use Rattle.kindi.specs.declared.Params.{Params}
-use Rattle.kindi.specs.Params.{WellFormed, modulus, storedLength, secretLength, lowLength, paddedLength, highLength, matrixLength}
+use Rattle.kindi.specs.Params.{WellFormed, modulus, storedLength, secretLength, lowLength, paddedLength, highLength}
 use Rattle.kindi.specs.Params.{secretsLength, coinsStreamLength}
-use Rattle.kindi.specs.Streams.{coefficient, smallIn, lowIn, lowPart, keySecret, mask, coinsStream, ephemeralBy, ephemeral}
+use Rattle.kindi.specs.Streams.{coefficient, smallIn, lowIn, lowPart, keySecret, coinsStream, ephemeralBy, ephemeral}
 use Rattle.kindi.specs.Keys.{public, publicPart, matrixSeed, secretSeed}
 use Rattle.kindi.specs.Encrypt.{masked, error}
 use Rattle.kindi.specs.Noise.{keyNoise, noise, noises}
 use Rattle.kindi.proofs.Padding.{length-masked}
 use Rattle.kindi.proofs.Strings.{coefficient-packed}
-use Rattle.keys.proofs.Made.{keyStreams, streams-long}
-use Rattle.cipher_terms.proofs.Masks.{masked-is, low-there, length-stream, stream-below}
+use Rattle.cipher_terms.proofs.Masks.{low-there, length-stream, stream-below}
 use Rattle.noise.specs.Rooms.{valueOf, Kept}
 use Rattle.noise.specs.Terms.{keyNoiseIn, noiseIn, noisesFrom}
 use Rattle.noise.proofs.Products.{ofInts-table}
@@ -45,19 +43,6 @@ length-masked-stream P coins message =
     length-patched (lowLength P) (paddedLength P) (masked P coins message) (coinsStream P coins) (length-masked P coins message)
     (omega (arith, length-stream P coins))
     ∙ length-stream P coins
-
--- What `masked_stream` leaves.
-pub masked-made : (P : Params) (coins message : List ℕ) (a k : ℕ) {N : ℕ} {S ys : List ℕ} → a ≡ lowLength P → k ≡ paddedLength P → N ≡
-    coinsStreamLength P
-    → S ≡ shake (P .rate) coins N → ys ≡ xorInto (take (a + k - a) (drop a S)) (message ++ (1 ∷ []))
-    → patched a (a + k - a) ys S ≡ maskedStream P coins message
-unfolding coinsStream mask
-masked-made P coins message a k {N} {S} {ys} ea ek en es ey =
-    let stream : S ≡ coinsStream P coins = es ∙ ap (shake (P .rate) coins) en in
-    let back : a + k - a ≡ paddedLength P = add-sub-cancel-left a k ∙ ek in
-    let there : take (a + k - a) (drop a S) ≡ mask P coins = ap₂ take back (ap₂ drop ea stream) in
-    let part : ys ≡ masked P coins message = ey ∙ ap (λ (l : List ℕ). xorInto l (message ++ (1 ∷ []))) there ∙ masked-is P coins message in
-    ap₂ (λ (i j : ℕ). patched i j ys S) ea back ∙ ap₂ (patched (lowLength P) (paddedLength P)) part stream
 
 -- ---- the parts of a secret key
 
@@ -196,51 +181,29 @@ streams-split P b coins streams {s} e =
 
 -- ---- the stream of γ in the work area
 
--- The k entries from a on are the end of the first a + k.
-part-first : (a k : ℕ) (xs : List ℕ) → a ≤ length xs → take k (drop a xs) ≡ drop a (take (a + k) xs)
-part-first a k xs h = sym (ap (drop a) (take-add a k xs) ∙ drop-at (take a xs) (take k (drop a xs)) a (length-take-le a xs h))
-
--- It is there once both streams of a key are.
-pub stream-there : (P : Params) (sk μ work : List ℕ) {m s : ℕ} → m ≡ matrixLength P → s ≡ secretsLength P
-    → take (m + s) work ≡ keyStreams P μ (secretSeed P sk) → Kept P sk work
-stream-there P sk μ work {m} {s} em es e =
-    let γ : List ℕ = secretSeed P sk in
-    let long : length (take (m + s) work) ≡ m + s = ap length e ∙ streams-long P μ γ ∙ sym (ap₂ _+_ em es) in
-    let room : m ≤ length work = omega (arith, sym (length-take (m + s) work) ∙ long) in
-    ap₂ (λ (i j : ℕ). take i (drop j work)) (sym es) (sym em) ∙ part-first m s work room ∙ ap (drop m) e
-    ∙ drop-at (shake (P .rate) μ (matrixLength P)) (shake (P .rate) γ (secretsLength P)) m
-    (length-shake (P .rate) μ (matrixLength P) ∙ sym em)
+-- It is there where `public_polynomials` keeps all of it.
+pub stream-there : (P : Params) (sk work : List ℕ) {s : ℕ} {γ : List ℕ} → s ≡ secretsLength P → γ ≡ secretSeed P sk
+    → take s work ≡ take s (shake (P .rate) γ (secretsLength P)) → Kept P sk work
+stream-there P sk work {s} {γ} es eγ e =
+    let m : ℕ = secretsLength P in
+    ap (λ (i : ℕ). take i work) (sym es) ∙ e ∙ ap₂ (λ (i : ℕ) (g : List ℕ). take i (shake (P .rate) g m)) es eγ
+    ∙ take-all m (shake (P .rate) (secretSeed P sk) m) (omega (arith, length-shake (P .rate) (secretSeed P sk) m))
 
 -- What is written behind it leaves it.
-pub stream-stays : (P : Params) (sk work ys : List ℕ) (k : ℕ) {m s : ℕ} → m ≡ matrixLength P → s ≡ secretsLength P → m + s ≤ length work
-    → Kept P sk work → Kept P sk (patched (m + s) k ys work)
-stream-stays P sk work ys k {m} {s} em es room kept =
-    let after : List ℕ = patched (m + s) k ys work in
-    let first : take (m + s) after ≡ take (m + s) work = take-at (take (m + s) work) (ys ++ drop k (drop (m + s) work)) (m + s)
-    (length-take-le (m + s) work room) in
-    let long : length (take (m + s) after) ≡ m + s = ap length first ∙ length-take-le (m + s) work room in
-    let room' : m ≤ length after = omega (arith, sym (length-take (m + s) after) ∙ long) in
-    let part : (l : List ℕ) → take (secretsLength P) (drop (matrixLength P) l) ≡
-    take s (drop m l) = λ l. ap₂ (λ (i j : ℕ). take i (drop j l)) (sym es) (sym em) in
-    part after ∙ part-first m s after room' ∙ ap (drop m) first ∙ sym (part-first m s work (omega (arith, room))) ∙ sym (part work) ∙ kept
+pub stream-stays : (P : Params) (sk work ys : List ℕ) (k : ℕ) {s : ℕ} → s ≡ secretsLength P → s ≤ length work
+    → Kept P sk work → Kept P sk (patched s k ys work)
+stream-stays P sk work ys k {s} es room kept =
+    ap (λ (i : ℕ). take i (patched s k ys work)) (sym es)
+    ∙ take-at (take s work) (ys ++ drop k (drop s work)) s (length-take-le s work room) ∙ ap (λ (i : ℕ). take i work) es ∙ kept
 
 -- Behind it stands the stream of the coins, once that is written.
-pub streams-written : (P : Params) (sk coins message work : List ℕ) {m s n : ℕ} {ys : List ℕ} → m ≡ matrixLength P → s ≡ secretsLength P
-    → n ≡ coinsStreamLength P → m + s ≤ length work → Kept P sk work → ys ≡ maskedStream P coins message
-    → take (m + s + n - m) (drop m (patched (m + s) (m + s + n - (m + s)) ys work))
-    ≡ shake (P .rate) (secretSeed P sk) (secretsLength P) ++ maskedStream P coins message
-streams-written P sk coins message work {m} {s} {n} {ys} em es en room kept e =
-    let k : ℕ = m + s + n - (m + s) in
-    let after : List ℕ = patched (m + s) k ys work in
-    let both : m + s + n - m ≡ s + n = omega arith in
+pub streams-written : (P : Params) (sk coins message work : List ℕ) {s n : ℕ} {ys : List ℕ} → s ≡ secretsLength P
+    → n ≡ coinsStreamLength P → s + n ≤ length work → Kept P sk work → ys ≡ maskedStream P coins message
+    → take (s + n) (patched s (s + n - s) ys work) ≡ shake (P .rate) (secretSeed P sk) (secretsLength P) ++ maskedStream P coins message
+streams-written P sk coins message work {s} {n} {ys} es en room kept e =
     let long : length ys ≡ n = ap length e ∙ length-masked-stream P coins message ∙ sym en in
-    let rest : List ℕ = drop k (drop (m + s) work) in
-    let first : take s (drop m after) ≡ shake (P .rate) (secretSeed P sk) (secretsLength P)
-    = ap₂ (λ (i j : ℕ). take i (drop j after)) es em ∙ stream-stays P sk work ys k em es room kept in
-    let second : take n (drop s (drop m after)) ≡ maskedStream P coins message
-    = ap (take n) (drop-drop s m after ∙ drop-at (take (m + s) work) (ys ++ rest) (m + s) (length-take-le (m + s) work room)) ∙
-    take-at ys rest n long ∙ e in
-    ap (λ (i : ℕ). take i (drop m after)) both ∙ take-add s n (drop m after) ∙ ap₂ _++_ first second
+    ap (λ (k : ℕ). take (s + n) (patched s k ys work)) (add-sub-cancel-left s n) ∙ take-patched s n ys work long room
+    ∙ ap₂ _++_ (ap (λ (i : ℕ). take i work) es ∙ kept) e
 
 -- Both together are as long as their lengths say.
 pub streams-size : (P : Params) (sk coins message : List ℕ)

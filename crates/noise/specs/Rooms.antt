@@ -1,15 +1,16 @@
 -- What the functions of `noise` ask of their slices. Rests on the definitions of `kindi`.
 use mathlib.Core.Path.{_≡_}
 use mathlib.Core.List.{List}
-use Prim.Native.Nat.{ℕ, _+_, _^_, _≤_, _<_}
+use Prim.Native.Nat.{ℕ, _+_, _-_, _^_, _≤_, _<_}
 use lib.IntN.{ℤ}
-use lib.ListN.{length, take, drop}
+use lib.ListN.{length, take}
 use Rattle.hash.specs.Shake.{shake}
 use Rattle.bits.specs.Bits.{Below, pack}
 use Rattle.ring.specs.Integers.{largest}
 use Rattle.ring.specs.Poly.{residues}
 use Rattle.kindi.specs.declared.Params.{Params}
-use Rattle.kindi.specs.Params.{WellFormed, modulus, lengthOf, storedLength, secretLength, paddedLength, matrixLength, secretsLength, lowLength, highLength, restLength, coinsStreamLength, noiseWork}
+use Rattle.kindi.specs.Params.{WellFormed, modulus, lengthOf, storedLength, secretLength, paddedLength, noiseWork}
+use Rattle.kindi.specs.Params.{secretsLength, lowLength, highLength, restLength, coinsStreamLength}
 use Rattle.kindi.specs.Keys.{joined, public, publicPart, matrixSeed, secretSeed}
 
 -- b in full, k bits a coefficient.
@@ -17,9 +18,9 @@ unfoldable pub valueOf : Params → List ℕ → List ℕ
 valueOf P sk =
     pack (P .k) (joined (P .l) (λ i. residues (modulus P) (P .n) (public P (matrixSeed P (publicPart P sk)) (secretSeed P sk) i)))
 
--- The work area has the stream of γ behind the room for that of μ.
+-- The work area begins with the stream of γ.
 abbrev pub Kept : Params → List ℕ → List ℕ → Type 0
-Kept P sk work = take (secretsLength P) (drop (matrixLength P) work) ≡ shake (P .rate) (secretSeed P sk) (secretsLength P)
+Kept P sk work = take (secretsLength P) work ≡ shake (P .rate) (secretSeed P sk) (secretsLength P)
 
 -- The arguments of `public_value`.
 pub record ValueRoom (P : Params) (sk b work : List ℕ) : Type 0 where
@@ -28,21 +29,27 @@ pub record ValueRoom (P : Params) (sk b work : List ℕ) : Type 0 where
   pub value-long : length b ≡ lengthOf P (P .l) (P .k)
   pub work-long : noiseWork P ≤ length work
 
--- The arguments of `measure`.
-pub record MeasureRoom (P : Params) (sk b coins message work : List ℕ) : Type 0 where
+-- The arguments of `agree`: a secret key, and its b in full.
+pub record KeyRoom (P : Params) (sk b : List ℕ) : Type 0 where
   pub well : WellFormed P
   pub secret-long : length sk ≡ secretLength P
   pub value-is : b ≡ valueOf P sk
+
+-- The arguments of `measure`.
+pub record MeasureRoom (P : Params) (sk b coins message work : List ℕ) : Type 0 where
+  pub key : KeyRoom P sk b
   pub coins-long : length coins ≡ P .coins
   pub message-fits : length message < paddedLength P
   pub work-long : noiseWork P ≤ length work
   pub stream-kept : Kept P sk work
 
--- b in full, and stored polynomials.
-pub record AgreementRoom (P : Params) (b stored : List ℕ) : Type 0 where
+-- b in full, stored polynomials, and room for the values and for the bytes of a polynomial.
+pub record AgreementRoom (P : Params) (b stored : List ℕ) (values bytes : ℕ) : Type 0 where
   pub well : WellFormed P
   pub value-long : length b ≡ lengthOf P (P .l) (P .k)
   pub stored-long : length stored ≡ storedLength P
+  pub values-are : values ≡ P .n
+  pub bytes-are : bytes ≡ lengthOf P 1 (P .k - P .t)
 
 -- A string with polynomial m of w bits a coefficient, and room for a polynomial.
 pub record StringRoom (P : Params) (w : ℕ) (bytes : List ℕ) (m room : ℕ) : Type 0 where

@@ -1,11 +1,11 @@
 -- What the code reads from the streams of γ and of the coins, from b in full, and the noise of these. Rests on the definitions
 -- of `kindi`.
 use mathlib.Core.List.{List, map}
-use Prim.Native.Nat.{ℕ, _+_, _-_, _*_, _%_, _^_}
+use Prim.Native.Nat.{ℕ, _+_, _-_, _%_, _^_}
 use lib.IntN.{ℤ, pos, _+ℤ_, _-ℤ_}
 use lib.ListN.{length, getD, take, drop}
 use Rattle.keccak.specs.Lists.{tabulate}
-use Rattle.bits.specs.Bits.{pack, unpack}
+use Rattle.bits.specs.Bits.{pack}
 use Rattle.ring.specs.Integers.{centred}
 use Rattle.ring.specs.Poly.{Poly, plus, minus, dot}
 use Rattle.kindi.specs.declared.Params.{Params}
@@ -13,9 +13,9 @@ use Rattle.kindi.specs.Params.{lowLength, paddedLength, highLength, secretsLeng
 use Rattle.kindi.specs.Streams.{coefficient, smallIn, lowIn, ephemeralBy}
 use Rattle.kindi.specs.Keys.{compress}
 
--- b in full without its low t bits, in k − t bits.
-unfoldable pub droppedBits : Params → List ℕ → List ℕ
-droppedBits P b = pack (P .k - P .t) (map (compress (P .t)) (unpack (P .k) (P .l * P .n) b))
+-- Polynomial i of b in full without its low t bits, in k − t bits.
+unfoldable pub droppedBits : Params → List ℕ → ℕ → List ℕ
+droppedBits P b i = pack (P .k - P .t) (map (compress (P .t)) (tabulate (P .n) (coefficient (P .k) (P .n) b i)))
 
 -- X_i from a string that begins with w, the stream of γ, and b in full.
 unfoldable pub keyNoiseIn : Params → List ℕ → List ℕ → List ℕ → ℕ → Poly

@@ -12,12 +12,13 @@ ghost use Rattle.noise.specs.Terms.{keyNoiseIn, combined};
 use kindi::Params;
 use vectors::lengths;
 
-fn words() -> [u16; 512] {
+// Room for the values of a polynomial.
+pub fn words() -> [u16; 512] {
     [0; 512]
 }
 
 // Polynomial m of a string, w bits a coefficient.
-fn values(p: Params, w: u32, bytes: &[u8], m: usize, dst: &mut [u16])
+pub fn values(p: Params, w: u32, bytes: &[u8], m: usize, dst: &mut [u16])
     requires { ⌜ StringRoom p w (now bytes) m (length (now dst)) ⌝ }
     ensures { λ _. ⌜ now (dst .exit) ≡ tabulate (p .n) (coefficient w (p .n) (now (bytes .entry)) m) ⌝ }
 {

@@ -1,20 +1,14 @@
 // The noise of an encryption (01, "Noise"): b in full and whether a key stores it, then how large the noise of coins and a
 // message is.
 ghost use mathlib.Core.Path.{_≡_};
-ghost use Rattle.keccak.specs.Lists.{patched};
-ghost use Rattle.kindi.specs.Params.{WellFormed, lowLength, paddedLength, coinsStreamLength};
-ghost use Rattle.kindi.specs.Streams.{coinsStream};
-ghost use Rattle.kindi.specs.Encrypt.{masked};
 ghost use Rattle.kindi.specs.Answers.{agrees, clearUnder, largestUnder};
-ghost use Prim.Native.Nat.{_<_, _≤_};
-ghost use lib.ListN.{length};
-ghost use Rattle.noise.specs.Rooms.{valueOf, Kept, ValueRoom, MeasureRoom};
+ghost use Rattle.noise.specs.Rooms.{valueOf, Kept, ValueRoom, KeyRoom, MeasureRoom};
 
 mod agreement;
 mod factors;
 mod sums;
 
-use cipher_terms::add_padded;
+use cipher_terms::masked_stream;
 use keys::public_polynomials;
 use kindi::Params;
 use vectors::lengths;
@@ -25,41 +19,43 @@ pub struct Measured {
     pub largest: u32,
 }
 
-// b in full, k bits a coefficient, from a secret key's μ and γ; whether the stored public key agrees with it. The stream
-// of γ stays in the work area.
-pub fn public_value(p: Params, sk: &[u8], b: &mut [u8], work: &mut [u8]) -> bool
+// b in full, k bits a coefficient, from a secret key's μ and γ; the stream of γ stays in the work area.
+pub fn public_value(p: Params, sk: &[u8], b: &mut [u8], work: &mut [u8])
     requires { ⌜ ValueRoom p (now sk) (now b) (now work) ⌝ }
-    ensures { λ r. ⌜ (r ≡ agrees p (now (sk .entry))) × (now (b .exit) ≡ valueOf p (now (sk .entry)))
-        × Kept p (now (sk .entry)) (now (work .exit)) ⌝ }
+    ensures { λ _. ⌜ (now (b .exit) ≡ valueOf p (now (sk .entry))) × Kept p (now (sk .entry)) (now (work .exit)) ⌝ }
 {
-    let matrix = lengths::matrix(p);
-    let need = matrix + lengths::secrets(p);
+    let secrets = lengths::secrets(p);
     let stored = lengths::stored(p);
     let public = stored + p.seed;
     let end = public + p.seed;
-    hash::shake(p.rate, &sk[stored..public], &mut work[..matrix]);
-    hash::shake(p.rate, &sk[public..end], &mut work[matrix..need]);
-    public_polynomials(p, 0, &work[..need], b);
-    agreement::agree(p, b, &sk[..stored])
+    public_polynomials(
+        p,
+        0,
+        &sk[stored..public],
+        &sk[public..end],
+        secrets,
+        work,
+        b,
+    );
 }
 
-// The bytes of the stream from the coins.
-fn stream_length(p: Params) -> usize
-    requires { ⌜ WellFormed p ⌝ }
-    ensures { λ r. ⌜ (r ≡ coinsStreamLength p) × (r ≤ 262144) ⌝ }
-{
-    lengths::low(p) + (lengths::padded(p) + (lengths::high(p) + lengths::rest(p)))
+// Room for the bytes of a polynomial.
+fn bytes() -> [u8; 1024] {
+    [0; 1024]
 }
 
-// The stream of the coins, in which the message is masked.
-fn masked_stream(p: Params, coins: &[u8], message: &[u8], stream: &mut [u8])
-    requires { ⌜ (WellFormed p) × (length (now message) < paddedLength p) × (length (now stream) ≡ coinsStreamLength p) ⌝ }
-    ensures { λ _. ⌜ now (stream .exit) ≡ patched (lowLength p) (paddedLength p) (masked p (now (coins .entry)) (now (message .entry))) (coinsStream p (now (coins .entry))) ⌝ }
+// Whether the stored public key is that of μ and γ; b is what `public_value` leaves. It stands apart from that, with two
+// callers, so that the compiler keeps it apart and its arrays do not lie on the stack while b is computed.
+pub fn agree(p: Params, sk: &[u8], b: &[u8]) -> bool
+    requires { ⌜ KeyRoom p (now sk) (now b) ⌝ }
+    ensures { λ r. ⌜ r ≡ agrees p (now (sk .entry)) ⌝ }
 {
-    let at = lengths::low(p);
-    let end = at + lengths::padded(p);
-    hash::shake(p.rate, coins, stream);
-    add_padded(message, &mut stream[at..end]);
+    let n = p.n;
+    let stored = lengths::stored(p);
+    let part = lengths::length_of(p, 1, p.k - p.t);
+    let mut values = factors::words();
+    let mut dropped = bytes();
+    agreement::agree(p, b, &sk[..stored], &mut values[..n], &mut dropped[..part])
 }
 
 // Whether coins and a message are clear, and the largest absolute value of their noise; b and the stream of γ are what
@@ -77,9 +73,8 @@ pub fn measure(
         × (r .largest ≡ largestUnder p (now (sk .entry)) (now (coins .entry)) (now (message .entry)))
         × Kept p (now (sk .entry)) (now (work .exit)) ⌝ }
 {
-    let matrix = lengths::matrix(p);
-    let need = matrix + lengths::secrets(p);
-    let end = need + stream_length(p);
-    masked_stream(p, coins, message, &mut work[need..end]);
-    sums::sizes(p, b, coins, &work[matrix..end])
+    let secrets = lengths::secrets(p);
+    let end = secrets + lengths::coins_stream(p);
+    masked_stream(p, coins, message, &mut work[secrets..end]);
+    sums::sizes(p, b, coins, &work[..end])
 }

@@ -10,18 +10,16 @@ use Rattle.kindi.specs.declared.Params.{Params}
 use Rattle.kindi.specs.Answers.{Answer, refused, answered, refuseIf, agrees, clearUnder, largestUnder, clearPlaces, some, Size}
 use Rattle.kindi.specs.Calls.{Place}
 use Rattle.calls.proofs.Checked.{Checked, unchecked, check-first, zero-check, refused-number, answered-number, refused-returned, given-returned}
-use Rattle.noise.specs.Rooms.{MeasureRoom, valueOf, Kept}
+use Rattle.noise.specs.Rooms.{KeyRoom, MeasureRoom, Kept}
 use Rattle.noise_calls.specs.Fitting.{noiseFitting, chooseFitting, NoiseRoom, SizeExit, ChooseRoom, PlaceExit, SearchRoom, Search}
 
 -- ---- noise
 
 -- Once b and the stream of γ are known, the noise may be measured.
-pub measure-room : {P : Params} {sk coins message b b' work work' : List ℕ} → NoiseRoom P sk coins message b work → b' ≡ valueOf P sk
+pub measure-room : {P : Params} {sk coins message b b' work work' : List ℕ} → NoiseRoom P sk coins message b work → KeyRoom P sk b'
     → length work' ≡ length work → Kept P sk work' → MeasureRoom P sk b' coins message work'
-measure-room room is l kept = record {
-  well = room .room .well;
-  secret-long = room .room .secret-long;
-  value-is = is;
+measure-room room key l kept = record {
+  key = key;
   coins-long = room .coins-long;
   message-fits = room .message-fits;
   work-long = rw l (room .room .work-long);
@@ -57,12 +55,10 @@ module _ (P : Params) (sk coins message : List ℕ) {ok : Bool} {status : ℕ} (
 -- ---- choose
 
 -- Once b and the stream of γ are known, the coins may be searched.
-pub choose-room : {P : Params} {sk message list b b' work work' : List ℕ} → ChooseRoom P sk message list b work → b' ≡ valueOf P sk
+pub choose-room : {P : Params} {sk message list b b' work work' : List ℕ} → ChooseRoom P sk message list b work → KeyRoom P sk b'
     → length work' ≡ length work → Kept P sk work' → SearchRoom P sk b' message list work'
-choose-room room is l kept = record {
-  well = room .room .well;
-  secret-long = room .room .secret-long;
-  value-is = is;
+choose-room room key l kept = record {
+  key = key;
   message-fits = room .message-fits;
   coins-whole = room .coins-whole;
   work-long = rw l (room .room .work-long);

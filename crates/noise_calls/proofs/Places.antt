@@ -113,9 +113,7 @@ pub search-room : {P : Params} {sk b message list work work' : List ℕ} (at : �
     → at + P .coins ≤ length list → length work' ≡ length work → Kept P sk work'
     → MeasureRoom P sk b (take (at + P .coins - at) (drop at list)) message work'
 search-room {P} {list = list} at room h l kept = record {
-  well = room .well;
-  secret-long = room .secret-long;
-  value-is = room .value-is;
+  key = room .key;
   coins-long = part-length at (P .coins) list h;
   message-fits = room .message-fits;
   work-long = rw l (room .work-long);

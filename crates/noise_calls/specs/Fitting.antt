@@ -6,10 +6,10 @@ use mathlib.Core.List.{List}
 use Prim.Native.Nat.{ℕ, _<_, _≤_}
 use lib.ListN.{length, getD}
 use Rattle.kindi.specs.declared.Params.{Params}
-use Rattle.kindi.specs.Params.{WellFormed, secretLength, paddedLength, noiseWork}
+use Rattle.kindi.specs.Params.{paddedLength, noiseWork}
 use Rattle.kindi.specs.Answers.{Answer, answered, refuseIf, agrees, clearUnder, largestUnder, clearPlaces, some, Size}
 use Rattle.kindi.specs.Calls.{number, returned, Place}
-use Rattle.noise.specs.Rooms.{ValueRoom, valueOf, Kept}
+use Rattle.noise.specs.Rooms.{ValueRoom, KeyRoom, Kept}
 use Rattle.noise_calls.specs.Status.{wholeCoins}
 
 -- noise after its checks of lengths: refusal 8.
@@ -50,9 +50,7 @@ pub record PlaceExit (answer : Answer (List Bool)) (status place' : ℕ) : Type 
 
 -- The arguments of the search for clear coins, once b and the stream of γ are known.
 pub record SearchRoom (P : Params) (sk b message list work : List ℕ) : Type 0 where
-  pub well : WellFormed P
-  pub secret-long : length sk ≡ secretLength P
-  pub value-is : b ≡ valueOf P sk
+  pub key : KeyRoom P sk b
   pub message-fits : length message < paddedLength P
   pub coins-whole : wholeCoins (P .coins) (length list) ≡ true
   pub work-long : noiseWork P ≤ length work

@@ -84,7 +84,8 @@ fn choose_fitting(
     requires { ⌜ ChooseRoom p (now sk) (now message) (now list) (now b) (now work) ⌝ }
     ensures { λ r. ⌜ PlaceExit (chooseFitting p (now (sk .entry)) (now (message .entry)) (now (list .entry))) r (now (place .exit)) ⌝ }
 {
-    let agrees = noise::public_value(p, sk, b, work);
+    noise::public_value(p, sk, b, work);
+    let agrees = noise::agree(p, sk, b);
     let other_key = checks::refuse_if(!agrees, 8, 0);
     if other_key != 0 {
         *place = 0;

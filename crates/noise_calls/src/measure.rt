@@ -51,7 +51,8 @@ fn measure_fitting(
 {
     *clear = 0;
     *largest = 0;
-    let agrees = noise::public_value(p, sk, b, work);
+    noise::public_value(p, sk, b, work);
+    let agrees = noise::agree(p, sk, b);
     let other_key = checks::refuse_if(!agrees, 8, 0);
     if other_key != 0 {
         return other_key;

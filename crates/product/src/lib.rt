@@ -39,7 +39,7 @@ fn toeplitz(acc: &mut [u16], row: &[u16], v: &[u16])
 }
 
 // acc + a·b.
-fn multiply(acc: &mut [u16], a: &[u16], b: &[u16])
+pub fn multiply_add(acc: &mut [u16], a: &[u16], b: &[u16])
     requires { ⌜ Factors (now acc) (now a) (now b) ⌝ }
     ensures { λ _. ⌜ now (acc .exit) ≡ withProduct (now (acc .entry)) (now (a .entry)) (now (b .entry)) ⌝ }
 {
@@ -58,7 +58,7 @@ pub fn dot_add(acc: &mut [u16], f: &[u16], s: &[u16], m: usize)
     let mut at = 0;
     let mut i = 0;
     while i < m {
-        multiply(acc, &f[at..at + n], &s[at..at + n]);
+        multiply_add(acc, &f[at..at + n], &s[at..at + n]);
         at += n;
         i += 1;
     }

@@ -3,7 +3,7 @@
 use Prim.Native.Nat.{_≤_}
 use native.Mathlib.Omega.{arith}
 use Rattle.kindi.specs.declared.Params.{Params}
-use Rattle.kindi.specs.Params.{WellFormed, storedLength, publicLength, secretLength, ciphertextLength, paddedLength, keygenWork, encryptWork}
+use Rattle.kindi.specs.Params.{WellFormed, storedLength, publicLength, secretLength, ciphertextLength, paddedLength, keygenWork, encryptWork, decryptWork}
 use Rattle.kindi.proofs.Lengths.{length-mono, work-areas}
 use Rattle.record_calls.specs.Outputs.{firstMost, secondMost}
 
@@ -16,6 +16,7 @@ pub record Sized (P : Params) : Type 0 where
   pub padded-fits : paddedLength P ≤ 1024
   pub keygen-fits : keygenWork P ≤ 65536
   pub encrypt-fits : encryptWork P ≤ 65536
+  pub decrypt-fits : decryptWork P ≤ 65536
 
 -- So they are: the public polynomials are no longer than a ciphertext, and the work areas are within their limit.
 pub sized : (P : Params) → WellFormed P → Sized P
@@ -30,6 +31,7 @@ sized P W =
       padded-fits = W .padded-fits;
       keygen-fits = work .keygen;
       encrypt-fits = work .encrypt;
+      decrypt-fits = work .decrypt;
     }
 
 -- One of them by itself: where it is listed, `omega` applies it to the parameters that are well formed.

@@ -3,11 +3,11 @@
 use mathlib.Core.Path.{_≡_}
 use mathlib.Core.List.{List}
 use Prim.Native.Nat.{ℕ, _+_, _*_, _%_, _^_, _≤_, _<_}
-use lib.IntN.{ℤ}
+use lib.IntN.{ℤ, pos, _-ℤ_}
 use lib.ListN.{length, getD}
 use Rattle.keccak.specs.Lists.{tabulate}
 use Rattle.ring.specs.Integers.{centred, largest}
-use Rattle.ring.specs.Poly.{plus, minus, mul, ofNats, ofInts, residues}
+use Rattle.ring.specs.Poly.{plus, mul, ofNats, ofInts, residues}
 
 -- Two factors and a sum of one length, which is a multiple of 4 up to 512.
 pub record Factors (acc a b : List ℕ) : Type 0 where
@@ -20,12 +20,13 @@ pub record Factors (acc a b : List ℕ) : Type 0 where
 abbrev pub withProduct : List ℕ → List ℕ → List ℕ → List ℕ
 withProduct acc a b = residues 65536 (length acc) (plus (ofNats acc) (mul (length acc) (ofNats a) (ofNats b)))
 
--- a + b and a − b modulo 2^16.
+-- a + b modulo 2^16.
 abbrev pub added : List ℕ → List ℕ → List ℕ
 added a b = residues 65536 (length a) (plus (ofNats a) (ofNats b))
 
-abbrev pub subtracted : List ℕ → List ℕ → List ℕ
-subtracted a b = residues 65536 (length a) (minus (ofNats a) (ofNats b))
+-- Each value taken from c, modulo 2^16.
+abbrev pub takenFrom : ℕ → List ℕ → List ℕ
+takenFrom c xs = residues 65536 (length xs) (λ k. pos c -ℤ ofNats xs k)
 
 -- Each value less p, modulo 2^16.
 abbrev pub centredWords : ℕ → List ℕ → List ℕ

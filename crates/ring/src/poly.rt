@@ -6,7 +6,7 @@ ghost use lib.ListN.{length};
 ghost use Rattle.keccak.specs.Lists.{tabulate};
 ghost use Rattle.ring.specs.Integers.{residue};
 ghost use Rattle.ring.specs.Poly.{ofNats, residues};
-ghost use Rattle.ring.specs.Coefficients.{Factors, withProduct, added, subtracted, centredWords};
+ghost use Rattle.ring.specs.Coefficients.{Factors, withProduct, added, takenFrom, centredWords};
 ghost use Rattle.ring.specs.Terms.{addTerm, addFour, doubled};
 
 // A term more, modulo 2^16.
@@ -110,13 +110,13 @@ pub fn add(acc: &mut [u16], b: &[u16])
     }
 }
 
-pub fn subtract(acc: &mut [u16], b: &[u16])
-    requires { ⌜ length (now b) ≡ length (now acc) ⌝ }
-    ensures { λ _. ⌜ now (acc .exit) ≡ subtracted (now (acc .entry)) (now (b .entry)) ⌝ }
+// Each value taken from c.
+pub fn subtract_from(c: u16, xs: &mut [u16])
+    ensures { λ _. ⌜ now (xs .exit) ≡ takenFrom c (now (xs .entry)) ⌝ }
 {
     let mut k = 0;
-    while k < acc.len() {
-        acc[k] = difference(acc[k], b[k]);
+    while k < xs.len() {
+        xs[k] = difference(c, xs[k]);
         k += 1;
     }
 }

@@ -111,8 +111,8 @@ fn product(w: u32, p: u16, acc: &mut [u16], a: &mut [u16], v: &mut [u16]) -> boo
     write_list(acc)
 }
 
-// The sum of two lists less a third.
-fn sum(acc: &mut [u16], next: &mut [u16]) -> bool
+// A number less each value of the sum of two lists.
+fn sum(c: u16, acc: &mut [u16], next: &mut [u16]) -> bool
     requires { ⌜ length (now next) ≡ length (now acc) ⌝ }
 {
     if !read_list(acc) {
@@ -122,10 +122,7 @@ fn sum(acc: &mut [u16], next: &mut [u16]) -> bool
         return false;
     }
     ring::poly::add(acc, next);
-    if !read_list(next) {
-        return false;
-    }
-    ring::poly::subtract(acc, next);
+    ring::poly::subtract_from(c, acc);
     write_list(acc)
 }
 
@@ -277,7 +274,7 @@ fn choose(
         return product(w, p, xs, ys, zs);
     }
     if kind == 5 {
-        return sum(xs, ys);
+        return sum(p, xs, ys);
     }
     false
 }

@@ -55,11 +55,14 @@ reads P W m w {a} {b} e h =
     let whole : w * a ≡ 8 * lengthOf P m w = ap (λ (k : ℕ). w * k) e ∙ whole-bytes P W m w in
     omega (arith, whole)
 
--- A polynomial fills its bytes.
-pub fills : (P : Params) → WellFormed P → (w : ℕ) {a b : ℕ} → a ≡ P .n → b ≡ lengthOf P 1 w → b ≡ bytesFor (w * a)
-fills P W w {a} {b} e h =
-    let whole : w * a ≡ 8 * lengthOf P 1 w = ap (λ (k : ℕ). w * k) (e ∙ sym (one-mul (P .n))) ∙ whole-bytes P W 1 w in
+-- They fill their bytes.
+pub vector-fills : (P : Params) → WellFormed P → (m w : ℕ) {a b : ℕ} → a ≡ m * P .n → b ≡ lengthOf P m w → b ≡ bytesFor (w * a)
+vector-fills P W m w {a} {b} e h =
+    let whole : w * a ≡ 8 * lengthOf P m w = ap (λ (k : ℕ). w * k) e ∙ whole-bytes P W m w in
     omega (arith, whole)
+
+pub fills : (P : Params) → WellFormed P → (w : ℕ) {a b : ℕ} → a ≡ P .n → b ≡ lengthOf P 1 w → b ≡ bytesFor (w * a)
+fills P W w e h = vector-fills P W 1 w (e ∙ sym (one-mul (P .n))) h
 
 -- Vectors of a set.
 pub vectors-of : (P : Params) → WellFormed P → {acc f s : List ℕ} → length acc ≡ P .n → length f ≡ P .l * P .n → length s ≡ P .l * P .n
@@ -71,10 +74,6 @@ vectors-of P W {acc} {f} {s} e a b =
       short = omega (arith, W .short);
       few = W .few;
     }
-
--- A vector has a coefficient, and fits an array.
-pub vector-some : (P : Params) → WellFormed P → 0 < P .l * P .n
-vector-some P W = mul-le-mul (W .some-polynomials) (W .some-coefficients)
 
 -- g is the power of two below q.
 pub half-power : (P : Params) → WellFormed P → 2 ^ (P .k - 1) ≡ half P

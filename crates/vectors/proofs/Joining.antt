@@ -2,18 +2,16 @@
 use mathlib.Core.Path.{_≡_, refl, sym, ap, ap₂, _∙_}
 use mathlib.Core.List.{List, [], _++_, append-assoc, append-nil}
 use Prim.Native.Nat.{ℕ, zero, suc, _+_, _-_, _*_, _^_, _≤_, _<_}
-use native.Mathlib.Nat.{add-sub-cancel-left, le-step, mul-zero, mul-left-comm}
+use native.Mathlib.Nat.{add-sub-cancel-left, le-refl, le-step, mul-zero, mul-left-comm}
 use native.Mathlib.Numerals.{add-one}
 use native.Mathlib.Omega.{arith}
 use lib.ListN.{length, take, drop, length-take, length-drop, length-append, drop-of-length-le}
 use lib.Seq.{take-at, drop-at, drop-drop}
 use lib.Pow.{pow-pos}
 use Rattle.keccak.specs.Lists.{value, digits, patched}
-use Rattle.hash.specs.Shake.{shake}
-use Rattle.hash.proofs.Laws.{length-shake}
 use Rattle.keccak.proofs.Parts.{length-patched, take-patched, patched-rest, take-rest}
-use Rattle.bits.specs.Bits.{Below, pack}
-use Rattle.bits.proofs.Digits.{pack-append}
+use Rattle.bits.specs.Bits.{Below, pack, lowBits}
+use Rattle.bits.proofs.Digits.{pack-append, lowBits-append}
 use Rattle.kindi.specs.Keys.{joined}
 use Rattle.kindi.proofs.Strings.{length-joined, joined-below}
 use Rattle.vectors.proofs.Amounts.{part-length}
@@ -61,20 +59,19 @@ then-next a k xs ys zs e l h =
     ap (λ (j : ℕ). take (a + k) (patched a j zs (ys ++ drop a xs))) (add-sub-cancel-left a k) ∙ take-patched a k zs (ys ++ drop a xs) l room
     ∙ ap (λ (t : List ℕ). t ++ zs) (take-at ys (drop a xs) a e)
 
--- Two streams in a slice, one after the other.
-pub two-streams : (r : ℕ) (work μ γ : List ℕ) {m s a b : ℕ} {first second : List ℕ} → m ≡ a → s ≡ b → m + s ≤ length work
-    → first ≡ shake r μ (length (take m work)) → second ≡ shake r γ (length (take (m + s - m) (drop m (first ++ drop m work))))
-    → take (m + s) (patched m (m + s - m) second (first ++ drop m work)) ≡ shake r μ a ++ shake r γ b
-two-streams r work μ γ {m} {s} {a} {b} {first} {second} em es room e1 e2 =
-    let long1 : length (take m work) ≡ m = simp length-take (omega arith) in
-    let first-long : length first ≡ m = ap length e1 ∙ length-shake r μ (length (take m work)) ∙ long1 in
-    let both : length (first ++ drop m work) ≡ length work = first-same m first work (first-long ∙ sym long1) in
-    let long2 : length (take (m + s - m) (drop m (first ++ drop m work))) ≡ s = part-length m s (first ++ drop m work) (rw both room) in
-    let second-long : length second ≡ s = ap length e2 ∙ length-shake r γ _ ∙ long2 in
-    then-next m s work first second first-long second-long room
-    ∙ ap₂ _++_ (e1 ∙ ap (shake r μ) (long1 ∙ em)) (e2 ∙ ap (shake r γ) (long2 ∙ es))
-
 -- ---- parts one after another
+
+-- The same parts are joined.
+pub joined-same : (m : ℕ) (f g : ℕ → List ℕ) → ((j : ℕ) → j < m → f j ≡ g j) → joined m f ≡ joined m g
+unfolding joined
+joined-same zero f g e = refl
+joined-same (suc m) f g e = ap₂ _++_ (joined-same m f g (λ j h. e j (le-step h))) (e m (le-refl (suc m)))
+
+-- The low bits of joined lists.
+pub lowBits-joined : (w m : ℕ) (f : ℕ → List ℕ) → lowBits w (joined m f) ≡ joined m (λ j. lowBits w (f j))
+unfolding joined lowBits
+lowBits-joined w zero f = refl
+lowBits-joined w (suc m) f = lowBits-append w (joined m f) (f m) ∙ ap (λ (l : List ℕ). l ++ lowBits w (f m)) (lowBits-joined w m f)
 
 -- Nothing is there yet.
 pub joined-none : (g : ℕ → List ℕ) (xs : List ℕ) → xs ≡ joined 0 g ++ xs

@@ -1,5 +1,5 @@
 -- The laws that the proofs of `vectors` share.
 pub mod Amounts
 pub mod Reading
-pub mod Sums
 pub mod Joining
+pub mod Congruent

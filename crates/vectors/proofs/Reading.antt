@@ -16,7 +16,7 @@ use Rattle.ring.specs.Coefficients.{centredWords}
 use Rattle.bits.proofs.Digits.{digits-tabulate, value-drop, length-unpack}
 use Rattle.bits.proofs.Filling.{tabulate-ext}
 use Rattle.ring.proofs.Modular.{residue-small, residue-cong, cong-trans, cong-of-eq}
-use Rattle.ring.proofs.Residues.{residues-at, residues-ext, length-residues}
+use Rattle.ring.proofs.Residues.{residues-at, length-residues}
 use Rattle.kindi.specs.declared.Params.{Params}
 use Rattle.kindi.specs.Params.{WellFormed, lengthOf}
 use Rattle.kindi.specs.Streams.{coefficient}
@@ -39,7 +39,7 @@ unpack-from P W w N a bytes below =
     ∙ ap (λ (u : ℕ). v / 2 ^ u) (ap (λ (u : ℕ). u + w * x) (sym (whole-bytes P W a w)) ∙ sym (mul-add w (a * P .n) x))))
 
 -- A coefficient counted from polynomial a on.
-pub coefficient-on : (w n : ℕ) (bytes : List ℕ) (a i x : ℕ) → coefficient w n bytes a (i * n + x) ≡ coefficient w n bytes (a + i) x
+coefficient-on : (w n : ℕ) (bytes : List ℕ) (a i x : ℕ) → coefficient w n bytes a (i * n + x) ≡ coefficient w n bytes (a + i) x
 unfolding coefficient
 coefficient-on w n bytes a i x =
     ap (λ (m : ℕ). value 8 bytes / 2 ^ (w * m) % 2 ^ w) (sym (add-assoc (a * n) (i * n) x) ∙ ap (λ (m : ℕ). m + x) (sym (add-mul a i n)))
@@ -76,7 +76,7 @@ small-vector m n w c bytes =
     ∙ flat m n _ _ (λ i x h l. ap (centred c) (sym (coefficient-unpack w n (m * n) bytes i x (place-below h l))))
 
 -- Coefficients as they are, from polynomial a on.
-pub plain-entries : (P : Params) → WellFormed P → (N w a : ℕ) (bytes : List ℕ) → w ≤ 16 → Below 256 bytes
+plain-entries : (P : Params) → WellFormed P → (N w a : ℕ) (bytes : List ℕ) → w ≤ 16 → Below 256 bytes
     → unpack w N (drop (lengthOf P a w) bytes) ≡ residues 65536 N (λ x. pos (coefficient w (P .n) bytes a x))
 unfolding residues
 plain-entries P W N w a bytes h below =
@@ -91,13 +91,6 @@ rest-entries P W w a M from bytes h below e f =
     ap₂ (λ (m : ℕ) (l : List ℕ). unpack w m l) f (take-rest from bytes ∙ ap (λ (m : ℕ). drop m bytes) e)
     ∙ plain-entries P W M w a bytes h below
 
--- They are a vector.
-pub plain-vector : (P : Params) → WellFormed P → (m w a : ℕ) (bytes : List ℕ) → w ≤ 16 → Below 256 bytes
-    → unpack w (m * P .n) (drop (lengthOf P a w) bytes) ≡ vector m (P .n) (λ i x. pos (coefficient w (P .n) bytes (a + i) x))
-plain-vector P W m w a bytes h below =
-    plain-entries P W (m * P .n) w a bytes h below
-    ∙ flat m (P .n) _ (λ y. pos (coefficient w (P .n) bytes a y)) (λ i x k l. ap pos (coefficient-on w (P .n) bytes a i x))
-
 -- A vector has its polynomials, modulo 2^16.
 pub vector-cong : (m n : ℕ) (f : ℕ → Poly) (i x : ℕ) → i < m → x < n → Cong 65536 (parts n (vector m n f) i x) (f i x)
 unfolding vector
@@ -105,9 +98,3 @@ vector-cong m n f i x h l =
     cong-trans
     (cong-of-eq (ap pos (joined-at m n (λ j. residues 65536 n (f j)) i x (λ j _. length-residues 65536 n (f j)) h l ∙ residues-at 65536 n (f i) l)))
     (residue-cong (suc-le-suc zero-le) (f i x))
-
--- Values less c are a polynomial.
-pub small-first : (n w c : ℕ) (bytes : List ℕ) → centredWords c (unpack w n bytes) ≡ residues 65536 n (λ x. centred c (coefficient w n bytes 0 x))
-small-first n w c bytes =
-    ap (λ (k : ℕ). residues 65536 k (λ y. centred c (getD (unpack w n bytes) y 0))) (length-unpack w n bytes)
-    ∙ residues-ext 65536 n _ _ (λ x h. ap (centred c) (sym (coefficient-first w n n bytes x h)))

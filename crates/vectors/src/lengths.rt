@@ -1,7 +1,7 @@
 // The lengths that follow from a set's parameters, in bytes.
 ghost use mathlib.Core.Path.{_≡_};
-ghost use Prim.Native.Nat.{_-_, _≤_};
-ghost use Rattle.kindi.specs.Params.{WellFormed, width as Params·width, lengthOf, storedLength, paddedLength, ciphertextLength, matrixLength, secretsLength, lowLength, highLength, restLength};
+ghost use Prim.Native.Nat.{_-_, _≤_, max};
+ghost use Rattle.kindi.specs.Params.{WellFormed, width as Params·width, lengthOf, storedLength, paddedLength, ciphertextLength, polynomialLength, secretsLength, lowLength, highLength, restLength, coinsStreamLength};
 use kindi::Params;
 
 // The width in bits of a small coefficient.
@@ -41,11 +41,12 @@ pub fn padded(p: Params) -> usize
     length_of(p, p.l + 1, width(p))
 }
 
-pub fn matrix(p: Params) -> usize
+// One polynomial of A.
+pub fn polynomial(p: Params) -> usize
     requires { ⌜ WellFormed p ⌝ }
-    ensures { λ r. ⌜ (r ≡ matrixLength p) × (r ≤ 65536) ⌝ }
+    ensures { λ r. ⌜ (r ≡ polynomialLength p) × (r ≤ 65536) ⌝ }
 {
-    length_of(p, p.l * p.l, p.k)
+    length_of(p, 1, p.k)
 }
 
 pub fn secrets(p: Params) -> usize
@@ -74,4 +75,19 @@ pub fn rest(p: Params) -> usize
     ensures { λ r. ⌜ (r ≡ restLength p) × (r ≤ 65536) ⌝ }
 {
     length_of(p, p.l - 1, width(p))
+}
+
+// The stream from the coins.
+pub fn coins_stream(p: Params) -> usize
+    requires { ⌜ WellFormed p ⌝ }
+    ensures { λ r. ⌜ (r ≡ coinsStreamLength p) × (r ≤ 262144) ⌝ }
+{
+    low(p) + (padded(p) + (high(p) + rest(p)))
+}
+
+// The larger one of two lengths, for bytes that serve one string after the other.
+pub fn larger(a: usize, b: usize) -> usize
+    ensures { λ r. ⌜ r ≡ max a b ⌝ }
+{
+    if a < b { b } else { a }
 }

@@ -10,16 +10,18 @@ ghost use lib.ListN.{length};
 ghost use Rattle.bits.specs.Bits.{unpack as Bits·unpack};
 ghost use Rattle.ring.specs.Coefficients.{centredWords};
 ghost use Rattle.kindi.specs.Keys.{compress as Keys·compress};
-ghost use Rattle.vectors.specs.Vectors.{raised, sumPart, Rows};
+ghost use Rattle.vectors.specs.Vectors.{raised};
 use kindi::Params;
-use lengths::width;
 use packing::unpack;
-use product::dot_add;
 use ring::poly::centre;
 
-// Room for a vector, and for one polynomial.
+// Room for a vector, for one with a polynomial more, and for one polynomial.
 pub fn zeros() -> [u16; 1536] {
     [0; 1536]
+}
+
+pub fn sums() -> [u16; 2048] {
+    [0; 2048]
 }
 
 pub fn polynomial() -> [u16; 512] {
@@ -72,13 +74,4 @@ pub fn compress(xs: &mut [u16], t: u32)
         xs[i] = xs[i] >> t;
         i += 1;
     }
-}
-
-// The sum of f_i·s_i with the polynomial of errors that a string begins with.
-pub fn sum_part(p: Params, errors: &[u8], f: &[u16], s: &[u16], acc: &mut [u16])
-    requires { ⌜ Rows p (now errors) (now f) (now s) (now acc) ⌝ }
-    ensures { λ _. ⌜ now (acc .exit) ≡ sumPart p (now (errors .entry)) (now (f .entry)) (now (s .entry)) ⌝ }
-{
-    small(width(p), errors, p.p, acc);
-    dot_add(acc, f, s, p.l);
 }

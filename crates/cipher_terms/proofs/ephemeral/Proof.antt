@@ -2,6 +2,7 @@
 -- Assumes nothing.
 use Rattle.vectors.proofs.Reading.{small-vector}
 use Rattle.vectors.proofs.Amounts.{reads, width-bound, rest-size, begun-length, begins}
+use Rattle.cipher_terms.proofs.Terms.{ephemeral-first}
 use Rattle.kindi.specs.Params.{width}
 use Rattle.ring.specs.Coefficients.{centredWords}
 use Rattle.bits.specs.Bits.{unpack}
@@ -17,21 +18,7 @@ use borrow.Author.Needs.{needs}
 use Rattle.cipher_terms.proofs.ephemeral.Statement.{statement}
 use Rattle.cipher_terms.proofs.ephemeral.Tie as tie
 
-polynomial-requires : tie.Need-polynomial-requires
-polynomial-requires c κs = search needs
-
-array-borrow-prefix-h : tie.Need-array-borrow-prefix-h
-array-borrow-prefix-h c = search needs
-
--- The parts that `first` fills.
-room-part : (c : tie.After-polynomial) →
-    let start : tie.Start = search in
-    length (take (start .args .p .n) (c .polynomial .result)) ≡ start .args .p .n
-room-part c =
-    let start : tie.Start = search in
-    let room : length (c .polynomial .result) ≡ 512 = search needs in
-    simp length-take (omega (arith, start .pre .well .short))
-
+-- The part that `first` fills.
 secret-part : (c : tie.Start) → length (take (c .args .p .n) (now (c .args .s))) ≡ c .args .p .n
 secret-part c = simp length-take (omega (arith, begins (c .args .p) (c .pre .well), c .pre .secret-long))
 
@@ -64,21 +51,18 @@ rest-part c =
     let W = start .pre .well in
     simp (length-take, length-drop) (rw (sym (rest-size (p .l) (p .n) (W .some-polynomials))) (omega (arith, begins p W, begun-size c)))
 
-slice-aggregate-first : tie.Need-slice-aggregate-first
-slice-aggregate-first c = sym (room-part (search))
-
 slice-relend-prefix-first : tie.Need-slice-relend-prefix-first
 slice-relend-prefix-first c =
     let start : tie.Start = search in
     omega (arith, begins (start .args .p) (start .pre .well), start .pre .secret-long)
 
-slice-aggregate-first-2 : tie.Need-slice-aggregate-first-2
-slice-aggregate-first-2 c = sym (secret-part (search))
+slice-aggregate-first : tie.Need-slice-aggregate-first
+slice-aggregate-first c = sym (secret-part (search))
 
 first-requires : tie.Need-first-requires
 first-requires c κs =
     let start : tie.Start = search in
-    (start .pre .well, start .pre .coins-long, start .pre .high-there, room-part (search), secret-part start)
+    (start .pre .well, start .pre .coins-long, start .pre .high-there, start .pre .high-long, secret-part start)
 
 width-requires : tie.Need-width-requires
 width-requires c κs = search needs
@@ -112,6 +96,9 @@ small-requires c κs =
 same-length : tie.Need-same-length
 same-length c = search needs
 
+same-length-2 : tie.Need-same-length-2
+same-length-2 c = search needs
+
 returns : tie.Need-returns
 returns c =
     let start : tie.Start = search in
@@ -126,16 +113,14 @@ returns c =
     (after-small .small .ensures ∙ ap₂ (λ (w m : ℕ). centredWords (p .p) (unpack w m rest)) (after-width .width .ensures)
     (rest-part after-first)
     ∙ small-vector (p .l - 1) (p .n) (width p) (p .p) rest)
+    ∙ ephemeral-first p (now (start .args .coins)) (now (start .args .high)) rest (p .l) (start .pre .well .some-polynomials)
 
 pub ephemeral-spec : {M : Type 1} → statement M
 ephemeral-spec =
     tie.close
     (tie.spec
-    polynomial-requires
-    array-borrow-prefix-h
-    slice-aggregate-first
     slice-relend-prefix-first
-    slice-aggregate-first-2
+    slice-aggregate-first
     first-requires
     width-requires
     mul-small
@@ -144,4 +129,5 @@ ephemeral-spec =
     part-small-end
     small-requires
     same-length
+    same-length-2
     returns)

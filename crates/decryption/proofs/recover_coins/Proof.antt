@@ -1,6 +1,6 @@
 -- `decryption::recover_coins` meets its contract.
 -- Assumes nothing.
-use Rattle.decryption.proofs.Masked.{seed-taken}
+use Rattle.decryption.proofs.Sums.{seed-taken}
 use Rattle.kindi.specs.Decrypt.{roundedCoins}
 use Prim.Native.Nat.{ℕ}
 use denote.Ref.{now}

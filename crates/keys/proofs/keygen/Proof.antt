@@ -1,14 +1,13 @@
--- `keys::keygen` meets its contract: both streams, the public key, and the three parts of the secret key, each in its place.
+-- `keys::keygen` meets its contract: the public key, and the three parts of the secret key, each in its place.
 -- Assumes nothing.
 use Rattle.keccak.specs.Lists.{patched}
 use Rattle.vectors.proofs.Amounts.{part-length}
 use Rattle.vectors.proofs.Joining.{rest-is, rest-same, first-same, next-same, then-rest}
-use Rattle.keys.proofs.Made.{keyStreams, streams-made, streams-long, public-made, secret-made}
-use Rattle.kindi.specs.Params.{keygenWork}
+use Rattle.keys.proofs.Made.{key-made, secret-made}
 use denote.Ref.{now}
 use lib.ListN.{length, take, drop, length-take, length-append}
 use native.Mathlib.Omega.{arith}
-use Prim.Native.Nat.{ℕ, _+_, _-_, _≤_}
+use Prim.Native.Nat.{ℕ, _+_, _-_, _≤_, zero-le}
 use mathlib.Core.List.{List, _++_}
 use mathlib.Core.Path.{_≡_, sym, ap, ap₂, _∙_}
 use borrow.Author.Needs.{needs}
@@ -16,34 +15,16 @@ use Rattle.keys.proofs.keygen.Statement.{statement}
 use Rattle.keys.proofs.keygen.Tie as tie
 
 -- From a place back to one that is far before it.
-abbrev start-of-matrix : tie.After-matrix → tie.Start
-start-of-matrix c = search
-
 abbrev start-of-stored : tie.After-stored → tie.Start
 start-of-stored c = search
-
-abbrev start-of-shake : tie.After-shake → tie.Start
-start-of-shake c = search
-
-abbrev stored-of-shake : tie.After-shake → tie.After-stored
-stored-of-shake c = search
 
 abbrev stored-of-public-polynomials : tie.After-public-polynomials → tie.After-stored
 stored-of-public-polynomials c = search
 
-abbrev shake-of-copy : tie.After-copy → tie.After-shake
-shake-of-copy c = search
+abbrev public-polynomials-of-copy : tie.After-copy → tie.After-public-polynomials
+public-polynomials-of-copy c = search
 
-ruleset places = (start-of-matrix, start-of-stored, start-of-shake, stored-of-shake, stored-of-public-polynomials, shake-of-copy)
-
-matrix-requires : tie.Need-matrix-requires
-matrix-requires c κs = search needs
-
-secrets-requires : tie.Need-secrets-requires
-secrets-requires c κs = search needs
-
-add-need : tie.Need-add-need
-add-need c = search needs
+ruleset places = (start-of-stored, stored-of-public-polynomials, public-polynomials-of-copy)
 
 stored-requires : tie.Need-stored-requires
 stored-requires c κs = search needs
@@ -53,72 +34,6 @@ add-public c = search needs
 
 add-end : tie.Need-add-end
 add-end c = search needs
-
-slice-relend-prefix-shake : tie.Need-slice-relend-prefix-shake
-slice-relend-prefix-shake c = search needs
-
-slice-aggregate-shake : tie.Need-slice-aggregate-shake
-slice-aggregate-shake c =
-    let start : tie.Start = search in
-    let after-matrix : tie.After-matrix = search in
-    simp length-take (omega (arith, after-matrix .matrix .ensures .0, start .pre .work-long))
-
-shake-requires : tie.Need-shake-requires
-shake-requires c κs = search needs
-
-sub-shake : tie.Need-sub-shake
-sub-shake c = search needs
-
-part-shake-start : tie.Need-part-shake-start
-part-shake-start c = search needs
-
-part-shake-end : tie.Need-part-shake-end
-part-shake-end c = search needs
-
-shake-requires-2 : tie.Need-shake-requires-2
-shake-requires-2 c κs = search needs
-
-slice-reshare-prefix-public-polynomials : tie.Need-slice-reshare-prefix-public-polynomials
-slice-reshare-prefix-public-polynomials c = search needs
-
--- Both streams, in the work area.
-streams-fit : (c : tie.After-secrets) →
-    let start : tie.Start = search in
-    let after-matrix : tie.After-matrix = search in
-    after-matrix .matrix .result + c .secrets .result ≤ length (now (start .args .work))
-streams-fit c =
-    let start : tie.Start = search in
-    let after-matrix : tie.After-matrix = search in
-    omega (arith, after-matrix .matrix .ensures .0, c .secrets .ensures .0, start .pre .work-long)
-
-abbrev written : tie.After-shake2 → List ℕ
-written c =
-    let start : tie.Start = search in
-    let after-matrix : tie.After-matrix = search in
-    let after-secrets : tie.After-secrets = search in
-    let after-shake : tie.After-shake = search in
-    let m : ℕ = after-matrix .matrix .result in
-    let s : ℕ = after-secrets .secrets .result in
-    take (m + s) (patched m (m + s - m) (c .shake2 .last .1 .1 .0) (after-shake .shake .last .1 .1 .0 ++ drop m (now (start .args .work))))
-
-streams : (c : tie.After-shake2) →
-    let start : tie.Start = search in
-    written c ≡ keyStreams (start .args .p) (now (start .args .mu)) (now (start .args .gamma))
-streams c =
-    let start : tie.Start = search in
-    let after-matrix : tie.After-matrix = search in
-    let after-secrets : tie.After-secrets = search in
-    let after-shake : tie.After-shake = search in
-    let a = start .args in
-    streams-made (a .p) (now (a .work)) (now (a .mu)) (now (a .gamma)) (after-matrix .matrix .ensures .0)
-    (after-secrets .secrets .ensures .0) (streams-fit after-secrets) (after-shake .shake .ensures) (c .shake2 .ensures)
-
-streams-size : (c : tie.After-shake2) →
-    let start : tie.Start = search in
-    length (written c) ≡ keygenWork (start .args .p)
-streams-size c =
-    let start : tie.Start = search in
-    ap length (streams c) ∙ streams-long (start .args .p) (now (start .args .mu)) (now (start .args .gamma))
 
 -- The stored polynomials, the public key, and γ after it have room.
 public-part : (c : tie.After-stored) →
@@ -142,8 +57,8 @@ secret-part c = simp length-take (omega (arith, secret-fits c))
 
 stored-size : (c : tie.After-public-polynomials) →
     let after-stored : tie.After-stored = search in
-    length (c .public-polynomials .last .1 .1 .1 .0) ≡ after-stored .stored .result
-stored-size c = c .public-polynomials .kept .1 .1 .1 .0 ∙ public-part (search)
+    length (c .public-polynomials .last .1 .1 .1 .1 .1 .1 .0) ≡ after-stored .stored .result
+stored-size c = c .public-polynomials .kept .1 .1 .1 .1 .1 .1 .0 ∙ public-part (search)
 
 -- The secret key once the public key is written, and once γ is.
 abbrev begun : tie.After-copy2 → List ℕ
@@ -178,23 +93,27 @@ later-same c =
     next-same (after-stored .stored .result + p .seed) (p .seed) (after-copy2 .copy2 .last .0) (c .copy3 .last .0) (now (start .args .sk))
     (secret-fits after-stored) (after-copy2 .copy2 .kept .0) (c .copy3 .kept .0)
 
-slice-aggregate-public-polynomials : tie.Need-slice-aggregate-public-polynomials
-slice-aggregate-public-polynomials c =
-    let after-matrix : tie.After-matrix = search in
-    let after-secrets : tie.After-secrets = search in
-    sym (streams-size (search) ∙ ap₂ _+_ (sym (after-matrix .matrix .ensures .0)) (sym (after-secrets .secrets .ensures .0)))
-
 slice-relend-prefix-public-polynomials : tie.Need-slice-relend-prefix-public-polynomials
 slice-relend-prefix-public-polynomials c = search needs
 
-slice-aggregate-public-polynomials-2 : tie.Need-slice-aggregate-public-polynomials-2
-slice-aggregate-public-polynomials-2 c = sym (public-part (search))
+slice-aggregate-public-polynomials : tie.Need-slice-aggregate-public-polynomials
+slice-aggregate-public-polynomials c = sym (public-part (search))
 
 public-polynomials-requires : tie.Need-public-polynomials-requires
 public-polynomials-requires c κs =
-    let start : tie.Start = search in
     let after-stored : tie.After-stored = search in
-    (start .pre .well, start .pre .well .kept, streams-size (search), public-part after-stored ∙ after-stored .stored .ensures .0)
+    let start : tie.Start = search in
+    let pre = start .pre in
+    record {
+      stream = record {
+        well = pre .well;
+        within = zero-le;
+        secrets-fit = omega (arith, pre .work-long);
+        polynomial-fits = omega (arith, pre .work-long);
+      };
+      some-kept = pre .well .kept;
+      stored-long = public-part after-stored ∙ after-stored .stored .ensures .0;
+    }
 
 sub-copy : tie.Need-sub-copy
 sub-copy c = search needs
@@ -213,8 +132,8 @@ copy-requires c κs =
     let n : ℕ = after-stored .stored .result in
     let pre = start .pre in
     let pk = now (start .args .pk) in
-    let stored : List ℕ = after-public-polynomials .public-polynomials .last .1 .1 .1 .0 in
-    let same = first-same n stored pk (after-public-polynomials .public-polynomials .kept .1 .1 .1 .0) in
+    let stored : List ℕ = after-public-polynomials .public-polynomials .last .1 .1 .1 .1 .1 .1 .0 in
+    let same = first-same n stored pk (after-public-polynomials .public-polynomials .kept .1 .1 .1 .1 .1 .1 .0) in
     rest-is n (start .args .p .seed) (stored ++ drop n pk) (omega (arith, same, after-stored .stored .ensures .0, pre .public-long)) ∙
     sym (pre .μ-long)
 
@@ -227,7 +146,7 @@ slice-aggregate-copy c = sym (secret-part (search))
 copy-requires-2 : tie.Need-copy-requires-2
 copy-requires-2 c κs =
     let n : ℕ = after-stored .stored .result in
-    let stored : List ℕ = after-public-polynomials .public-polynomials .last .1 .1 .1 .0 in
+    let stored : List ℕ = after-public-polynomials .public-polynomials .last .1 .1 .1 .1 .1 .1 .0 in
     let seed : List ℕ = after-copy .copy .last .0 in
     let long = stored-size after-public-polynomials in
     let whole = ap length (then-rest n (now (start .args .pk)) stored seed long) ∙ length-append stored seed in
@@ -289,8 +208,8 @@ same-length c =
     let start : tie.Start = search places in
     let a = start .args in
     let n : ℕ = after-stored .stored .result in
-    let stored : List ℕ = after-public-polynomials .public-polynomials .last .1 .1 .1 .0 in
-    let first = first-same n stored (now (a .pk)) (after-public-polynomials .public-polynomials .kept .1 .1 .1 .0) in
+    let stored : List ℕ = after-public-polynomials .public-polynomials .last .1 .1 .1 .1 .1 .1 .0 in
+    let first = first-same n stored (now (a .pk)) (after-public-polynomials .public-polynomials .kept .1 .1 .1 .1 .1 .1 .0) in
     rest-same n (after-copy .copy .last .0) (stored ++ drop n (now (a .pk)))
     (omega (arith, first, (after-stored .stored .ensures .0), start .pre .public-long)) (after-copy .copy .kept .0) ∙ first
 
@@ -306,22 +225,14 @@ same-length-2 c =
     (omega (arith, same, secret-fits after-stored)) (after-copy4 .copy4 .kept .0) ∙ same
 
 same-length-3 : tie.Need-same-length-3
-same-length-3 c =
-    let after-shake2 : tie.After-shake2 = search in
-    let after-shake : tie.After-shake = search in
-    let after-secrets : tie.After-secrets = search in
-    let after-matrix : tie.After-matrix = search in
-    let start : tie.Start = search places in
-    next-same (after-matrix .matrix .result) (after-secrets .secrets .result) (after-shake .shake .last .1 .1 .0)
-    (after-shake2 .shake2 .last .1 .1 .0) (now (start .args .work)) (streams-fit after-secrets)
-    (after-shake .shake .kept .1 .1 .0) (after-shake2 .shake2 .kept .1 .1 .0)
+same-length-3 c = search needs
 
 returns : tie.Need-returns
 returns c =
     let a = start .args in
     let p = a .p in
-    let public = public-made p (now (a .mu)) (now (a .gamma)) (now (a .pk)) _ (stored-size after-public-polynomials) (streams after-shake2)
-    (after-public-polynomials .public-polynomials .ensures) (after-copy .copy .ensures) in (
+    let public = key-made p (now (a .mu)) (now (a .gamma)) (now (a .pk)) (stored-size after-public-polynomials)
+    (after-public-polynomials .public-polynomials .ensures .0) (after-copy .copy .ensures) in (
       public,
       secret-made p (now (a .mu)) (now (a .gamma)) (now (a .z)) (now (a .sk)) (after-stored .stored .result + p .seed) (p .seed)
           (after-copy2 .copy2 .kept .0 ∙ secret-part after-stored)
@@ -334,9 +245,6 @@ returns c =
 
     after-stored : tie.After-stored
     after-stored = search places
-
-    after-shake2 : tie.After-shake2
-    after-shake2 = search
 
     after-public-polynomials : tie.After-public-polynomials
     after-public-polynomials = search
@@ -357,23 +265,11 @@ pub keygen-spec : {M : Type 1} → statement M
 keygen-spec =
     tie.close
     (tie.spec
-    matrix-requires
-    secrets-requires
-    add-need
     stored-requires
     add-public
     add-end
-    slice-relend-prefix-shake
-    slice-aggregate-shake
-    shake-requires
-    sub-shake
-    part-shake-start
-    part-shake-end
-    shake-requires-2
-    slice-reshare-prefix-public-polynomials
-    slice-aggregate-public-polynomials
     slice-relend-prefix-public-polynomials
-    slice-aggregate-public-polynomials-2
+    slice-aggregate-public-polynomials
     public-polynomials-requires
     sub-copy
     part-copy-start

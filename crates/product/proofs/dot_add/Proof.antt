@@ -35,8 +35,8 @@ loop-holds c =
     let words : Below 65536 (now (a .acc)) = λ i. after-slice-known .slice-known .given i .fits in
     (omega arith, sym (zero-mul _), refl, dot-none (now (a .acc)) (now (a .f)) (now (a .s)) words)
 
-add-multiply : tie.Need-add-multiply Inv-loop μ-loop
-add-multiply c =
+add-multiply-add : tie.Need-add-multiply-add Inv-loop μ-loop
+add-multiply-add c =
     let start : Start = search in
     let turn : Turn = search in
     let a = start .args in
@@ -45,8 +45,8 @@ add-multiply c =
     let few : a .m * n ≤ 4096 = rows-few (omega arith) (omega arith) in
     omega arith
 
-mul-multiply : tie.Need-mul-multiply Inv-loop μ-loop
-mul-multiply c =
+mul-multiply-add : tie.Need-mul-multiply-add Inv-loop μ-loop
+mul-multiply-add c =
     let start : Start = search in
     let turn : Turn = search in
     let a = start .args in
@@ -55,14 +55,14 @@ mul-multiply c =
     let few : a .m * n ≤ 4096 = rows-few (omega arith) (omega arith) in
     omega arith
 
-sub-multiply : tie.Need-sub-multiply Inv-loop μ-loop
-sub-multiply c = omega arith
+sub-multiply-add : tie.Need-sub-multiply-add Inv-loop μ-loop
+sub-multiply-add c = omega arith
 
-part-multiply-start : tie.Need-part-multiply-start Inv-loop μ-loop
-part-multiply-start c = omega arith
+part-multiply-add-start : tie.Need-part-multiply-add-start Inv-loop μ-loop
+part-multiply-add-start c = omega arith
 
-part-multiply-end : tie.Need-part-multiply-end Inv-loop μ-loop
-part-multiply-end c =
+part-multiply-add-end : tie.Need-part-multiply-add-end Inv-loop μ-loop
+part-multiply-add-end c =
     let start : Start = search in
     let turn : Turn = search in
     let a = start .args in
@@ -71,8 +71,8 @@ part-multiply-end c =
     let few : a .m * n ≤ 4096 = rows-few (omega arith) (omega arith) in
     omega arith
 
-add-multiply-2 : tie.Need-add-multiply-2 Inv-loop μ-loop
-add-multiply-2 c =
+add-multiply-add-2 : tie.Need-add-multiply-add-2 Inv-loop μ-loop
+add-multiply-add-2 c =
     let start : Start = search in
     let turn : Turn = search in
     let a = start .args in
@@ -81,8 +81,8 @@ add-multiply-2 c =
     let few : a .m * n ≤ 4096 = rows-few (omega arith) (omega arith) in
     omega arith
 
-mul-multiply-2 : tie.Need-mul-multiply-2 Inv-loop μ-loop
-mul-multiply-2 c =
+mul-multiply-add-2 : tie.Need-mul-multiply-add-2 Inv-loop μ-loop
+mul-multiply-add-2 c =
     let start : Start = search in
     let turn : Turn = search in
     let a = start .args in
@@ -91,14 +91,14 @@ mul-multiply-2 c =
     let few : a .m * n ≤ 4096 = rows-few (omega arith) (omega arith) in
     omega arith
 
-sub-multiply-2 : tie.Need-sub-multiply-2 Inv-loop μ-loop
-sub-multiply-2 c = omega arith
+sub-multiply-add-2 : tie.Need-sub-multiply-add-2 Inv-loop μ-loop
+sub-multiply-add-2 c = omega arith
 
-part-multiply-start-2 : tie.Need-part-multiply-start-2 Inv-loop μ-loop
-part-multiply-start-2 c = omega arith
+part-multiply-add-start-2 : tie.Need-part-multiply-add-start-2 Inv-loop μ-loop
+part-multiply-add-start-2 c = omega arith
 
-part-multiply-end-2 : tie.Need-part-multiply-end-2 Inv-loop μ-loop
-part-multiply-end-2 c =
+part-multiply-add-end-2 : tie.Need-part-multiply-add-end-2 Inv-loop μ-loop
+part-multiply-add-end-2 c =
     let start : Start = search in
     let turn : Turn = search in
     let a = start .args in
@@ -107,8 +107,8 @@ part-multiply-end-2 c =
     let few : a .m * n ≤ 4096 = rows-few (omega arith) (omega arith) in
     omega arith
 
-multiply-requires : tie.Need-multiply-requires Inv-loop μ-loop
-multiply-requires c κs =
+multiply-add-requires : tie.Need-multiply-add-requires Inv-loop μ-loop
+multiply-add-requires c κs =
     let start : Start = search in
     let turn : Turn = search in
     let a = start .args in
@@ -135,14 +135,14 @@ loop-again : tie.Need-loop-again Inv-loop μ-loop
 loop-again c =
     let start : Start = search in
     let turn : Turn = search in
-    let after-multiply : tie.After-multiply Inv-loop μ-loop = search in
+    let after-multiply-add : tie.After-multiply-add Inv-loop μ-loop = search in
     let a = start .args in
     let h = turn .loop in (
       omega arith,
       rw add-one (rw suc-mul (ap (λ (m : ℕ). m + length (now (a .acc))) (h .inv .1))),
-      after-multiply .multiply .kept .0 ∙ h .inv .2,
+      after-multiply-add .multiply-add .kept .0 ∙ h .inv .2,
       dot-turn (h .i) (h .at) (now (a .acc)) (h .acc) _ (now (a .f)) (now (a .s)) (h .inv .2) (h .inv .1) (h .inv .3)
-          (after-multiply .multiply .ensures),
+          (after-multiply-add .multiply-add .ensures),
     )
 
 same-length : tie.Need-same-length Inv-loop μ-loop
@@ -164,17 +164,17 @@ dot-add-spec =
     Inv-loop
     μ-loop
     loop-holds
-    add-multiply
-    mul-multiply
-    sub-multiply
-    part-multiply-start
-    part-multiply-end
-    add-multiply-2
-    mul-multiply-2
-    sub-multiply-2
-    part-multiply-start-2
-    part-multiply-end-2
-    multiply-requires
+    add-multiply-add
+    mul-multiply-add
+    sub-multiply-add
+    part-multiply-add-start
+    part-multiply-add-end
+    add-multiply-add-2
+    mul-multiply-add-2
+    sub-multiply-add-2
+    part-multiply-add-start-2
+    part-multiply-add-end-2
+    multiply-add-requires
     add-at
     add-i
     loop-less

@@ -98,7 +98,7 @@ returns-2 c =
     let work : tie.After-encrypt-work = search in
     let cipher : tie.After-ciphertext = search in
     let public : tie.After-public-key = search in
-    encaps-gives (ready (search)) (public .public-key .ensures .0) (cipher .ciphertext .ensures .0) (work .encrypt-work .ensures)
+    encaps-gives (ready (search)) (public .public-key .ensures .0) (cipher .ciphertext .ensures .0) (work .encrypt-work .ensures .0)
     (call .encaps .ensures) (c .outcome-of2 .ensures) (call .encaps .kept .1 .1 .1 .0) (call .encaps .kept .1 .1 .1 .1 .0)
 
 pub encapsulate-spec : {M : Type 1} → statement M

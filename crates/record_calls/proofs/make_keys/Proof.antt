@@ -109,7 +109,7 @@ returns-2 c =
     let work : tie.After-keygen-work = search in
     let secret : tie.After-secret-key = search in
     let public : tie.After-public-key = search in
-    keygen-gives (ready (search)) (public .public-key .ensures .0) (secret .secret-key .ensures) (work .keygen-work .ensures .0)
+    keygen-gives (ready (search)) (public .public-key .ensures .0) (secret .secret-key .ensures) (work .keygen-work .ensures)
     (call .keygen .ensures) (c .outcome-of2 .ensures) (call .keygen .kept .1 .1 .1 .1 .0) (call .keygen .kept .1 .1 .1 .1 .1 .0)
 
 pub make-keys-spec : {M : Type 1} → statement M

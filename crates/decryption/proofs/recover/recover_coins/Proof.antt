@@ -57,7 +57,7 @@ room : (c : tie.After-length-of) →
     c .length-of .result ≤ length (now (start .args .work))
 room c =
     let start : tie.Start = search in
-    omega (arith, need-is c, secret-fits (start .args .p) (start .pre .well), start .pre .work-long)
+    omega (arith, need-is c, secret-fits (start .args .p), start .pre .work-long)
 
 fresh : (c : tie.After-length-of) →
     let start : tie.Start = search in

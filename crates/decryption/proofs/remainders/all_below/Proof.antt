@@ -10,7 +10,7 @@ use lib.Dec.{ltb}
 use lib.ListN.{length, getD, take}
 use lib.Seq.{take-all}
 use Rattle.kindi.specs.Decrypt.{allBelow}
-use Rattle.decryption.proofs.Left.{below-more}
+use Rattle.decryption.proofs.Remaining.{below-more}
 use Rattle.decryption.proofs.remainders.all_below.Statement.{statement}
 use Rattle.decryption.proofs.remainders.all_below.Tie as tie
 

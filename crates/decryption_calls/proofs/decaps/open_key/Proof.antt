@@ -29,14 +29,8 @@ open-requires c κs = search needs
 digest-requires : tie.Need-digest-requires
 digest-requires c κs = search needs
 
-matrix-requires : tie.Need-matrix-requires
-matrix-requires c κs = search needs
-
 low-requires : tie.Need-low-requires
 low-requires c κs = search needs
-
-add-at : tie.Need-add-at
-add-at c = search needs
 
 padded-requires : tie.Need-padded-requires
 padded-requires c κs = search needs
@@ -56,21 +50,18 @@ part-add-padded-end c = search needs
 -- The part of the work area that has the padded message.
 place : (c : tie.After-padded) →
     let after-open : tie.After-open = search in
-    let after-matrix : tie.After-matrix = search in
     let after-low : tie.After-low = search in
-    after-matrix .matrix .result + after-low .low .result + c .padded .result ≤ length (after-open .«open» .last .1 .1 .1 .1 .0)
+    after-low .low .result + c .padded .result ≤ length (after-open .«open» .last .1 .1 .1 .1 .0)
 place c =
     let start : tie.Start = search places in
     let after-recover-coins : tie.After-recover-coins = search in
     let after-open : tie.After-open = search in
-    let after-matrix : tie.After-matrix = search in
     let after-low : tie.After-low = search in
     omega (
       arith,
       after-open .«open» .kept .1 .1 .1 .1 .0,
       after-recover-coins .recover-coins .kept .1 .1 .1 .1 .0,
       start .pre .room .work-long,
-      after-matrix .matrix .ensures .0,
       after-low .low .ensures .0,
       c .padded .ensures .0,
     )
@@ -80,11 +71,10 @@ add-padded-requires c κs =
     let start : tie.Start = search places in
     let after-open : tie.After-open = search in
     let after-digest : tie.After-digest = search in
-    let after-matrix : tie.After-matrix = search in
     let after-low : tie.After-low = search in
     let after-padded : tie.After-padded = search in
     let pre = start .pre in
-    let long = part-length (after-matrix .matrix .result + after-low .low .result) (after-padded .padded .result)
+    let long = part-length (after-low .low .result) (after-padded .padded .result)
     (after-open .«open» .last .1 .1 .1 .1 .0) (place after-padded) in
     omega (
       arith,
@@ -104,11 +94,10 @@ part-all-zero-start c = search needs
 part-all-zero-end : tie.Need-part-all-zero-end
 part-all-zero-end c =
     let after-open : tie.After-open = search in
-    let after-matrix : tie.After-matrix = search in
     let after-low : tie.After-low = search in
     let after-padded : tie.After-padded = search in
     let after-add-padded : tie.After-add-padded = search in
-    let at = after-matrix .matrix .result + after-low .low .result in
+    let at = after-low .low .result in
     let same = same-long at (after-padded .padded .result) (after-add-padded .add-padded .last .1 .0)
     (after-open .«open» .last .1 .1 .1 .1 .0) (place after-padded) (after-add-padded .add-padded .kept .1 .0) in
     omega (arith, same, place after-padded)
@@ -129,13 +118,12 @@ checks : (c : tie.After-refuse-if2) →
     let added : tie.After-add-padded = search in
     let placed : tie.After-padded = search in
     let low : tie.After-low = search in
-    let matrix : tie.After-matrix = search in
     let hashed : tie.After-digest = search in
     let opened : tie.After-open = search places in
     let recovered : tie.After-recover-coins = search places in
     let start : tie.Start = search places in
     KeyChecks (start .args .p) (now (start .args .sk)) (now (start .args .ct)) (recovered .recover-coins .last .1 .1 .1 .0)
-    (opened .«open» .last .1 .1 .1 .1 .0) (opened .«open» .result) (matrix .matrix .result) (low .low .result) (placed .padded .result)
+    (opened .«open» .last .1 .1 .1 .1 .0) (opened .«open» .result) (low .low .result) (placed .padded .result)
     (hashed .digest .last .1 .1 .0) (added .add-padded .last .1 .0) (compared .all-zero .result) (first .refuse-if .result) (c .refuse-if2 .result)
 checks c =
     let first : tie.After-refuse-if = search in
@@ -143,7 +131,6 @@ checks c =
     let added : tie.After-add-padded = search in
     let placed : tie.After-padded = search in
     let low : tie.After-low = search in
-    let matrix : tie.After-matrix = search in
     let hashed : tie.After-digest = search in
     let opened : tie.After-open = search places in
     let recovered : tie.After-recover-coins = search places in
@@ -153,7 +140,6 @@ checks c =
         well = start .pre .room .well;
         coins-are = recovered .recover-coins .ensures;
         exit = opened .«open» .ensures;
-        matrix-is = matrix .matrix .ensures .0;
         low-is = low .low .ensures .0;
         padded-is = placed .padded .ensures .0;
       };
@@ -209,9 +195,7 @@ open-key-spec =
     recover-coins-requires
     open-requires
     digest-requires
-    matrix-requires
     low-requires
-    add-at
     padded-requires
     add-end
     sub-add-padded

@@ -24,14 +24,8 @@ recover-coins-requires c κs = search needs
 open-requires : tie.Need-open-requires
 open-requires c κs = search needs
 
-matrix-requires : tie.Need-matrix-requires
-matrix-requires c κs = search needs
-
 low-requires : tie.Need-low-requires
 low-requires c κs = search needs
-
-add-at : tie.Need-add-at
-add-at c = search needs
 
 padded-requires : tie.Need-padded-requires
 padded-requires c κs = search needs
@@ -63,19 +57,17 @@ checks : (c : tie.After-refuse-if2) →
     let ended : tie.After-ending = search in
     let placed : tie.After-padded = search in
     let low : tie.After-low = search in
-    let matrix : tie.After-matrix = search in
     let opened : tie.After-open = search in
     let recovered : tie.After-recover-coins = search places in
     let start : tie.Start = search places in
     MessageChecks (start .args .p) (now (start .args .sk)) (now (start .args .ct)) (recovered .recover-coins .last .1 .1 .1 .0)
-    (opened .«open» .last .1 .1 .1 .1 .0) (opened .«open» .result) (matrix .matrix .result) (low .low .result) (placed .padded .result)
+    (opened .«open» .last .1 .1 .1 .1 .0) (opened .«open» .result) (low .low .result) (placed .padded .result)
     (ended .ending .result .mark) (ended .ending .result .len) (first .refuse-if .result) (c .refuse-if2 .result)
 checks c =
     let first : tie.After-refuse-if = search in
     let ended : tie.After-ending = search in
     let placed : tie.After-padded = search in
     let low : tie.After-low = search in
-    let matrix : tie.After-matrix = search in
     let opened : tie.After-open = search in
     let recovered : tie.After-recover-coins = search places in
     let start : tie.Start = search places in
@@ -84,7 +76,6 @@ checks c =
         well = start .pre .room .well;
         coins-are = recovered .recover-coins .ensures;
         exit = opened .«open» .ensures;
-        matrix-is = matrix .matrix .ensures .0;
         low-is = low .low .ensures .0;
         padded-is = placed .padded .ensures .0;
       };
@@ -123,7 +114,6 @@ part-write-message-end c =
     let ended : tie.After-ending = search in
     let placed : tie.After-padded = search in
     let after-low : tie.After-low = search in
-    let after-matrix : tie.After-matrix = search in
     let opened : tie.After-open = search in
     let recovered : tie.After-recover-coins = search places in
     let start : tie.Start = search places in
@@ -133,7 +123,6 @@ part-write-message-end c =
       start .pre .room .work-long,
       opened .«open» .kept .1 .1 .1 .1 .0,
       recovered .recover-coins .kept .1 .1 .1 .1 .0,
-      after-matrix .matrix .ensures .0,
       after-low .low .ensures .0,
       placed .padded .ensures .0,
     )
@@ -170,9 +159,7 @@ open-message-spec =
     (tie.spec
     recover-coins-requires
     open-requires
-    matrix-requires
     low-requires
-    add-at
     padded-requires
     add-end
     sub-ending

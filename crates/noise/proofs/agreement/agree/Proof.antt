@@ -1,115 +1,140 @@
--- `noise::agreement::agree` meets its contract.
+-- `noise::agreement::agree` meets its contract: after i turns the first i polynomials are compared.
 -- Assumes nothing.
-use mathlib.Core.Path.{_≡_, sym, ap, _∙_}
-use mathlib.Core.List.{_++_}
-use Prim.Native.Nat.{_*_}
+use mathlib.Core.Path.{_≡_, refl, _∙_}
+use mathlib.Core.Bool.{Bool}
+use mathlib.Core.List.{List}
+use Prim.Native.Nat.{ℕ, _+_, _-_, _<_}
 use native.Mathlib.Omega.{arith}
 use borrow.Author.Needs.{needs}
 use denote.Ref.{now}
-use lib.ListN.{length, take, drop, length-take, length-append}
-use lib.Seq.{take-at}
-use Rattle.kindi.specs.Answers.{same}
-use Rattle.noise.proofs.Bounds.{stored-short}
+use lib.ListN.{length, take, drop}
+use Rattle.bits.proofs.Filling.{turn-less}
+use Rattle.kindi.specs.declared.Params.{Params}
+use Rattle.kindi.specs.Params.{lengthOf}
+use Rattle.vectors.proofs.Amounts.{Placed, within, part-length}
+use Rattle.noise.specs.Rooms.{StringRoom, AgreementRoom}
+use Rattle.noise.proofs.Agreeing.{Compared, compared-none, next-placed, compared-more, compared-all}
 use Rattle.noise.proofs.agreement.agree.Statement.{statement}
 use Rattle.noise.proofs.agreement.agree.Tie as tie
 
--- The rooms, and what is there once the bits are dropped.
-values-room : (c : tie.After-zeros) →
-    let start : tie.Start = search in
-    length (take (start .args .p .l * start .args .p .n) (c .zeros .result)) ≡ start .args .p .l * start .args .p .n
-values-room c =
-    let start : tie.Start = search in
-    let long : length (c .zeros .result) ≡ 1536 = search needs in
-    simp length-take (omega (arith, start .pre .well .vector))
+-- The arguments are as they were asked, the rooms keep their lengths, and i polynomials are compared.
+record Turns (P : Params) (b stored : List ℕ) (room-values room-bytes values bytes at i : ℕ) (all : Bool) : Type 0 where
+  room : AgreementRoom P b stored room-values room-bytes
+  values-long : values ≡ room-values
+  bytes-long : bytes ≡ room-bytes
+  done : Compared P b stored at i all
 
-bytes-room : (c : tie.After-bytes) →
-    let start : tie.Start = search in
-    length (take (length (now (start .args .stored))) (c .bytes .result)) ≡ length (now (start .args .stored))
-bytes-room c =
-    let start : tie.Start = search in
-    let long : length (c .bytes .result) ≡ 3072 = search needs in
-    simp length-take (omega (arith, stored-short (start .args .p) (start .pre .well), start .pre .stored-long))
+abbrev Inv-loop : tie.InvT-loop
+Inv-loop p b stored values₀ dropped₀ part all₀ at₀ i₀ values dropped all at i =
+    Turns p b stored (length values₀) (length dropped₀) (length values) (length dropped) at i all
 
-filled : (c : tie.After-drop-bits) →
-    let start : tie.Start = search in
-    length (c .drop-bits .last .1 .1 .1 .0) ≡ length (now (start .args .stored))
-filled c = c .drop-bits .kept .1 .1 .1 .0 ∙ bytes-room (search)
+abbrev μ-loop : tie.MeasureT-loop
+μ-loop p b stored values₀ dropped₀ part all₀ at₀ i₀ values dropped all at i = p .l - i
 
-held : (c : tie.After-drop-bits) →
-    let start : tie.Start = search in
-    let after-bytes : tie.After-bytes = search in
-    take (length (now (start .args .stored)))
-    (c .drop-bits .last .1 .1 .1 .0 ++ drop (length (now (start .args .stored))) (after-bytes .bytes .result)) ≡
-    c .drop-bits .last .1 .1 .1 .0
-held c =
-    let start : tie.Start = search in
-    let after-bytes : tie.After-bytes = search in
-    take-at (c .drop-bits .last .1 .1 .1 .0) (drop (length (now (start .args .stored))) (after-bytes .bytes .result))
-    (length (now (start .args .stored))) (filled c)
+-- The places of the code that the answers name.
+abbrev Turn : Type 0
+Turn = tie.At-loop Inv-loop μ-loop
 
-mul-vector : tie.Need-mul-vector
-mul-vector c = search needs
+abbrev In-loop : Type 0
+In-loop = tie.Then1 Inv-loop μ-loop
 
-zeros-requires : tie.Need-zeros-requires
-zeros-requires c κs = search needs
+loop-holds : tie.Need-loop-holds Inv-loop μ-loop
+loop-holds c =
+    let start : tie.Start Inv-loop μ-loop = search in
+    record { room = start .pre; values-long = refl; bytes-long = refl; done = compared-none _ _ _ }
 
-bytes-requires : tie.Need-bytes-requires
-bytes-requires c κs = search needs
+-- The next polynomial lies within the stored ones.
+there : (c : In-loop) →
+    let start : tie.Start Inv-loop μ-loop = search in
+    let turn : Turn = search in
+    Placed (turn .loop .at) (length (now (start .args .dropped))) (length (now (start .args .stored)))
+there c =
+    let turn : Turn = search in
+    next-placed (turn .loop .inv .room) (turn .loop .inv .done) (omega arith)
 
-array-borrow-prefix-values : tie.Need-array-borrow-prefix-values
-array-borrow-prefix-values c = search needs
+-- It may be compared.
+next-room : {P : Params} {b stored : List ℕ} {v m values bytes at i : ℕ} {all : Bool} → Turns P b stored v m values bytes at i all → i < P .l
+    → (StringRoom P (P .k) b i values) × (length (take (at + m - at) (drop at stored)) ≡ lengthOf P 1 (P .k - P .t))
+    × (bytes ≡ lengthOf P 1 (P .k - P .t))
+next-room {P} {stored = stored} {m = m} {at = at} turns h =
+    let room = turns .room in (
+      record {
+        well = room .well;
+        narrow = room .well .word;
+        few = omega (arith, room .well .few);
+        there = rw (room .value-long) (within P (P .k) h);
+        room-is = turns .values-long ∙ room .values-are;
+      },
+      part-length at m stored (next-placed room (turns .done) h .fits) ∙ room .bytes-are,
+      turns .bytes-long ∙ room .bytes-are,
+    )
 
-slice-aggregate-drop-bits : tie.Need-slice-aggregate-drop-bits
-slice-aggregate-drop-bits c = sym (values-room (search))
+add-polynomial-agrees : tie.Need-add-polynomial-agrees Inv-loop μ-loop
+add-polynomial-agrees c = omega (arith, there c .fits, there c .short)
 
-array-borrow-prefix-dropped : tie.Need-array-borrow-prefix-dropped
-array-borrow-prefix-dropped c =
-    let start : tie.Start = search in
-    let after-bytes : tie.After-bytes = search in
-    let long : length (after-bytes .bytes .result) ≡ 3072 = search needs in
-    omega (arith, stored-short (start .args .p) (start .pre .well), start .pre .stored-long)
+sub-polynomial-agrees : tie.Need-sub-polynomial-agrees Inv-loop μ-loop
+sub-polynomial-agrees c = omega arith
 
-slice-aggregate-drop-bits-2 : tie.Need-slice-aggregate-drop-bits-2
-slice-aggregate-drop-bits-2 c = sym (bytes-room (search))
+part-polynomial-agrees-start : tie.Need-part-polynomial-agrees-start Inv-loop μ-loop
+part-polynomial-agrees-start c = omega (arith, there c .fits)
 
-drop-bits-requires : tie.Need-drop-bits-requires
-drop-bits-requires c κs =
-    let start : tie.Start = search in
-    let pre = start .pre in
-    (record { well = pre .well; value-long = pre .value-long; stored-long = bytes-room (search) ∙ pre .stored-long }, values-room (search))
+part-polynomial-agrees-end : tie.Need-part-polynomial-agrees-end Inv-loop μ-loop
+part-polynomial-agrees-end c = omega (arith, there c .fits)
 
-array-share-prefix-dropped : tie.Need-array-share-prefix-dropped
-array-share-prefix-dropped c = simp length-append (omega (arith, filled (search)))
+polynomial-agrees-requires : tie.Need-polynomial-agrees-requires Inv-loop μ-loop
+polynomial-agrees-requires c κs =
+    let turn : Turn = search in
+    let h = turn .loop .inv in
+    next-room h (omega arith)
 
-slice-aggregate-same-bytes : tie.Need-slice-aggregate-same-bytes
-slice-aggregate-same-bytes c =
-    let after-drop-bits : tie.After-drop-bits = search in
-    sym (ap length (held after-drop-bits) ∙ filled after-drop-bits)
+add-at : tie.Need-add-at Inv-loop μ-loop
+add-at c = let inside = there search in omega (arith, inside .fits, inside .short)
 
-same-bytes-requires : tie.Need-same-bytes-requires
-same-bytes-requires c κs =
-    let after-drop-bits : tie.After-drop-bits = search in
-    sym (ap length (held after-drop-bits) ∙ filled after-drop-bits)
+add-i : tie.Need-add-i Inv-loop μ-loop
+add-i c = let turn : Turn = search in omega (arith, turn .loop .inv .room .well .few)
 
-returns : tie.Need-returns
+loop-less : tie.Need-loop-less Inv-loop μ-loop
+loop-less c = turn-less (omega arith)
+
+loop-again : tie.Need-loop-again Inv-loop μ-loop
+loop-again c =
+    let turn : Turn = search in
+    let compared : tie.After-polynomial-agrees Inv-loop μ-loop = search in
+    let h = turn .loop .inv in
+    record {
+      room = h .room;
+      values-long = compared .polynomial-agrees .kept .1 .1 .1 .1 .0 ∙ h .values-long;
+      bytes-long = compared .polynomial-agrees .kept .1 .1 .1 .1 .1 .0 ∙ h .bytes-long;
+      done = compared-more (h .room) (h .done) (omega arith) (compared .polynomial-agrees .ensures);
+    }
+
+same-length : tie.Need-same-length Inv-loop μ-loop
+same-length c = search needs
+
+same-length-2 : tie.Need-same-length-2 Inv-loop μ-loop
+same-length-2 c = search needs
+
+returns : tie.Need-returns Inv-loop μ-loop
 returns c =
-    let start : tie.Start = search in
-    let after-drop-bits : tie.After-drop-bits = search in
-    c .same-bytes .ensures ∙ ap (same (now (start .args .stored))) (held after-drop-bits ∙ after-drop-bits .drop-bits .ensures)
+    let turn : Turn = search in
+    compared-all (turn .loop .inv .room) (turn .loop .inv .done) (omega arith)
 
 pub agree-spec : {M : Type 1} → statement M
 agree-spec =
     tie.close
     (tie.spec
-    mul-vector
-    zeros-requires
-    bytes-requires
-    array-borrow-prefix-values
-    slice-aggregate-drop-bits
-    array-borrow-prefix-dropped
-    slice-aggregate-drop-bits-2
-    drop-bits-requires
-    array-share-prefix-dropped
-    slice-aggregate-same-bytes
-    same-bytes-requires
+    Inv-loop
+    μ-loop
+    loop-holds
+    add-polynomial-agrees
+    sub-polynomial-agrees
+    part-polynomial-agrees-start
+    part-polynomial-agrees-end
+    polynomial-agrees-requires
+    add-at
+    add-i
+    loop-less
+    loop-again
+    same-length
+    same-length-2
     returns)

@@ -14,7 +14,6 @@ use Rattle.kindi.specs.Params.{width}
 use Rattle.kindi.specs.Streams.{coefficient}
 use Rattle.kindi.proofs.Strings.{tabulate-below}
 use Rattle.vectors.proofs.Amounts.{width-bound, within}
-use Rattle.keys.proofs.Made.{errors-inside}
 use Rattle.noise.specs.Terms.{keyNoiseIn}
 use Rattle.noise.proofs.Tables.{low-table, combined-table}
 use Rattle.noise.proofs.Bounds.{values-below, low-power}
@@ -88,7 +87,7 @@ values-requires-2 c κs =
       well = W;
       narrow = rw w (width-bound p W);
       few = omega (arith, pre .0 .turn, W .few);
-      there = rw (w, pre .0 .secrets-long) (errors-inside p (pre .0 .turn));
+      there = rw (w, pre .0 .secrets-long) (within p (width p) (omega (arith, pre .0 .turn)));
       room-is = pre .2;
     }
 

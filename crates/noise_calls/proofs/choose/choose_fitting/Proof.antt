@@ -8,6 +8,9 @@ use Rattle.noise_calls.proofs.choose.choose_fitting.Tie as tie
 public-value-requires : tie.Need-public-value-requires
 public-value-requires c κs = search needs
 
+agree-requires : tie.Need-agree-requires
+agree-requires c κs = search needs
+
 refuse-if-requires : tie.Need-refuse-if-requires
 refuse-if-requires c κs = search needs
 
@@ -49,6 +52,7 @@ choose-fitting-spec =
     tie.close
     (tie.spec
     public-value-requires
+    agree-requires
     refuse-if-requires
     same-length
     same-length-2

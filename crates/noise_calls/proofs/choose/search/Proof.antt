@@ -40,7 +40,7 @@ In-loop = tie.In-loop Inv-loop μ-loop
 div-count : tie.Need-div-count Inv-loop μ-loop
 div-count c =
     let start : tie.Start Inv-loop μ-loop = search in
-    let well = start .pre .well in
+    let well = start .pre .key .well in
     omega (arith, well .coin-bits, well .some-coefficients)
 
 loop-holds : tie.Need-loop-holds Inv-loop μ-loop

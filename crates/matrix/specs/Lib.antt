@@ -1,0 +1,3 @@
+-- What the contracts of `matrix` say.
+pub mod Product
+pub mod Walk
