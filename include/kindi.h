@@ -148,10 +148,11 @@ KINDI_CHECK_STATUS uint32_t kindi_shake256(const uint8_t *input, size_t input_le
  * The stack is not cleared, and secrets stay there. After kindi_encaps and kindi_decaps the whole shared key lies
  * in what the call took of it, and after kindi_decrypt and kindi_decaps all of the coins, also where kindi_decaps
  * refuses with KINDI_WRONG_DIGEST. After the other calls of the scheme values lie there from which secrets
- * follow: the key's secret vector after kindi_keygen, kindi_noise and kindi_choose, and one that gives the coins
- * after kindi_encrypt and kindi_encrypt_each. After a SHAKE call the sponge lies there, which gives the rest of the
- * output and, where the input is shorter than a block, the input. A caller who shares the stack with code that is not trusted clears
- * KINDI_STACK_LEN bytes of it after each call, refused or not, as examples/clear_stack.h does.
+ * follow: the key's secret vector after kindi_keygen, a good part of it after kindi_noise and kindi_choose, and one
+ * that gives the coins after kindi_encrypt and kindi_encrypt_each. After a SHAKE call the sponge lies there, which
+ * gives the rest of the output and, where the input is shorter than a block, the input. A caller who shares the
+ * stack with code that is not trusted clears KINDI_STACK_LEN bytes of it after each call, refused or not, as
+ * examples/clear_stack.h does.
  */
 enum kindi_status {
     KINDI_OK = 0,

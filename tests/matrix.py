@@ -140,7 +140,6 @@ def wrongs(texts):
             yield f"{place}: {line}: it is called by its whole name"
     said = {"arrays": {place: sorted(rows) for place, rows in ARRAYS.items()}, "rooms": ROOMS, "sponges": SPONGES,
             "streams": STREAMS, "calls of add_product": USERS}
-    # hash::shake is shake_from at place 0, and calls from_place is the SHAKE calls' own.
     for kind, found in kinds.items():
         for place in sorted(set(found) | set(said[kind])):
             has, wants = found.get(place, []), said[kind].get(place, [])
