@@ -1,4 +1,6 @@
 // Bit strings (01, "Bits and streams"): the width of coefficients, their low bits, and two bytes a coefficient.
+#![tactic(auto)]
+
 ghost use Rattle.std.specs.Prelude.{◌≡◌, ◌+◌, ◌*◌, ◌%◌, ◌^◌, ◌≤◌, length};
 ghost use Rattle.std.specs.Int.Count.{count_trailing_zeros};
 ghost use Rattle.bits.specs.Bits.{pack, unpack, low_bits};

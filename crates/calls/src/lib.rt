@@ -1,5 +1,7 @@
 // The SHAKE calls, and what the other calls share: the checks of lengths, the sizes of keys and work areas, the hashes of shared
 // keys, and the work area at exit.
+#![tactic(auto)]
+
 pub mod checks;
 pub mod kem;
 pub mod shake;

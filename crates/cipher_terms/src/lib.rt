@@ -1,4 +1,6 @@
 // The terms of a ciphertext (01: sealing) that do not come from A: P, s, what both give D, and the masked message.
+#![tactic(auto)]
+
 ghost use Rattle.std.specs.Prelude.{◌≡◌, cond, [], ◌∷◌, ◌++◌, ◌≤◌, ◌<◌, eqb, length};
 ghost use Rattle.keccak.specs.Lists.{patched};
 ghost use Rattle.keccak.specs.Strings.{xor_into};

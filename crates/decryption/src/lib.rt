@@ -1,4 +1,6 @@
 // Decryption over any well-formed parameters, on slices of the right lengths, up to its outcome (01: opening).
+#![tactic(auto)]
+
 mod recover;
 mod remainders;
 

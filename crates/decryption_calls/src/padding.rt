@@ -7,7 +7,7 @@ ghost use Rattle.decryption_calls.specs.Fitting.{ending_of, all_zero};
 use calls::work;
 
 // The last non-zero byte, 0 where there is none, and its place.
-#[derive(Drop)]
+#[derive(Clone, Copy)]
 pub struct Ended {
     pub mark: u8,
     pub len: usize,

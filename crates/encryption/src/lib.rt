@@ -1,4 +1,6 @@
 // Encryption over any well-formed parameters, on slices of the right lengths (01: sealing).
+#![tactic(auto)]
+
 ghost use Rattle.std.specs.Prelude.{◌≡◌, ◌+◌, ◌*◌, ◌≤◌, length};
 ghost use Rattle.kindi.specs.Params.{WellFormed};
 ghost use Rattle.kindi.specs.Encrypt.{ciphertext};

@@ -1,4 +1,6 @@
 // SHAKE128 and SHAKE256 (FIPS 202) by their rates of 168 and 136 bytes, for inputs and outputs of every length.
+#![tactic(auto)]
+
 pub mod sponge;
 
 ghost use Rattle.std.specs.Prelude.{◌≡◌, ◌≤◌, ◌<◌, length};

@@ -7,7 +7,7 @@ use keccak::strings::{copy, xor_into};
 
 // The string of 200 bytes, the place in its block, and the block's length. Where the place is the
 // block's end, a permutation is due before the next byte.
-#[derive(Drop)]
+#[derive(Clone, Copy)]
 pub struct Sponge {
     pub bytes: [u8; 200],
     pub at: usize,

@@ -1,4 +1,6 @@
 // Bytes as text and as numbers, for the programs over the layers.
+#![tactic(auto)]
+
 ghost use Rattle.std.specs.Prelude.{◌≡◌, ◌+◌, ◌*◌, ◌<◌, length};
 ghost use Rattle.hex.specs.Digits.{digit, byte_digits, hexadecimal};
 

@@ -1,4 +1,6 @@
 // Keccak-f[1600] (FIPS 202), on strings of 200 bytes.
+#![tactic(auto)]
+
 mod rounds;
 pub mod strings;
 

@@ -1,4 +1,6 @@
 // Keygen over any well-formed parameters, on slices of the right lengths (01: key making).
+#![tactic(auto)]
+
 ghost use Rattle.std.specs.Prelude.{◌≡◌, map, ◌+◌, ◌-◌, take};
 ghost use Rattle.hash.specs.Shake.{shake};
 ghost use Rattle.bits.specs.Bits.{pack, low_bits};

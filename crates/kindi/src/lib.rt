@@ -1,9 +1,11 @@
 // The parameter sets of KINDI (01, "Parameter sets"). The definitions and theorems of the scheme stand in specs/ and proofs/.
+#![tactic(auto)]
+
 ghost use Rattle.std.specs.Prelude.{◌≡◌};
 ghost use Rattle.kindi.specs.Params.{Parameters};
 
 // What a set fixes: n, ℓ, p, t and k, the lengths of seeds and coins in bytes, and the rate of its SHAKE in bytes.
-#[derive(Drop)]
+#[derive(Clone, Copy)]
 pub struct Params {
     pub n: usize,
     pub l: usize,

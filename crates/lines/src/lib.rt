@@ -1,5 +1,7 @@
 // The text of records (01, "Records on standard input"), in ASCII. A text is written into a lent buffer from a place on, and the
 // place after it is returned.
+#![tactic(auto)]
+
 ghost use Rattle.std.specs.Prelude.{[], ◌∷◌, ◌++◌, ◌+◌, ◌*◌, ◌≤◌, ◌<◌, length};
 ghost use Rattle.hex.specs.Digits.{hexadecimal};
 ghost use Rattle.lines.specs.Line.{Written, decimal, kind_field, output_field, line, end_line};

@@ -2,6 +2,8 @@
 // A turn reads until the input shows a record, and answers it by `records::step::step`. Lines are kept until there is no room for
 // another one or the program has to wait for input. A read that fails counts as the end of the input; a write that fails ends the
 // run.
+#![tactic(auto)]
+
 ghost use Rattle.std.specs.Prelude.{◌≡◌, ◌≤◌, length};
 ghost use Rattle.records.specs.Steps.{line_room};
 ghost use Rattle.linkcheck.specs.Turns.{Places, flushed, RoomMade, Filled, Ready, Wiped, AnswerRoom, Answered};
@@ -12,7 +14,7 @@ use libc::{STDIN_FILENO, STDOUT_FILENO};
 const LINE: usize = 18518;
 
 // Where the run stands.
-#[derive(Drop)]
+#[derive(Clone, Copy)]
 struct State {
     // What was read and is left stands in the input's buffer from `from` to `to`.
     from: usize,

@@ -1,5 +1,7 @@
 // Products with the matrix A (01, "Bits and streams"). A is fetched polynomial by polynomial in the order of its stream, which is
 // run once, so that one polynomial is held at a time; nothing else knows how A comes about.
+#![tactic(auto)]
+
 ghost use Rattle.std.specs.Prelude.{◌≡◌, cond, ◌+◌, ◌*◌, ◌≤◌, ◌<◌, ltb};
 ghost use Rattle.kindi.specs.Params.{WellFormed};
 ghost use Rattle.matrix.specs.Product.{ProductRoom, with_matrix};

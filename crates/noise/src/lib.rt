@@ -1,5 +1,7 @@
 // The noise of an encryption (01, "Noise"): b in full and whether a key stores it, then how large the noise of coins and a
 // message is.
+#![tactic(auto)]
+
 ghost use Rattle.std.specs.Prelude.{◌≡◌};
 ghost use Rattle.kindi.specs.Answers.{agrees, clear_under, largest_under};
 ghost use Rattle.noise.specs.Rooms.{value_of, Kept, ValueRoom, KeyRoom, MeasureRoom};
@@ -14,7 +16,7 @@ use kindi::Params;
 use vectors::lengths;
 
 // Whether a pair is clear, and the largest absolute value of its noise.
-#[derive(Drop)]
+#[derive(Clone, Copy)]
 pub struct Measured {
     pub clear: bool,
     pub largest: u32,

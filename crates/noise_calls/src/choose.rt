@@ -33,7 +33,7 @@ fn status(set: u32, p: Params, sk: usize, message: usize, list: usize, work: usi
 }
 
 // Whether some coins are clear, and the place of the first such.
-#[derive(Drop)]
+#[derive(Clone, Copy)]
 pub struct Found {
     pub some: bool,
     pub place: u32,

@@ -1,4 +1,6 @@
 // Bit strings (01, "Bits and streams"): coefficients of any width up to 16 bits in bytes.
+#![tactic(auto)]
+
 pub mod reader;
 
 ghost use Rattle.std.specs.Prelude.{◌++◌, ◌≡◌, ◌+◌, ◌*◌, ◌/◌, ◌%◌, ◌^◌, ◌≤◌, ◌<◌, min, length, take, drop};

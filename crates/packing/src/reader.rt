@@ -9,21 +9,21 @@ ghost use Rattle.packing.specs.Turns.{Begun, OneWord, TwoWords, HoldBefore};
 use bits::low_bits;
 
 // A byte's place in a string and the bit within it.
-#[derive(Drop)]
+#[derive(Clone, Copy)]
 pub struct Cursor {
     pub byte: usize,
     pub bit: u32,
 }
 
 // A coefficient and the cursor after it.
-#[derive(Drop)]
+#[derive(Clone, Copy)]
 pub struct Coefficient {
     pub value: u16,
     pub next: Cursor,
 }
 
 // How many coefficients were read, and the cursor after them.
-#[derive(Drop)]
+#[derive(Clone, Copy)]
 pub struct Part {
     pub count: usize,
     pub next: Cursor,

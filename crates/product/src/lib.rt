@@ -1,4 +1,6 @@
 // Sums of products of polynomials modulo X^n + 1, with coefficients modulo 2^16.
+#![tactic(auto)]
+
 mod halves;
 mod rows;
 

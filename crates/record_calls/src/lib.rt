@@ -1,5 +1,7 @@
 // The calls over the bodies of records (01, "Records on standard input"): a body is cut into the inputs of its call, and the
 // output stands in two lent buffers, a part in each.
+#![tactic(auto)]
+
 ghost use Rattle.std.specs.Prelude.{◌≡◌, cond, not};
 ghost use Rattle.kindi.specs.Params.{is_set};
 ghost use Rattle.record_calls.specs.Outputs.{Room, OutcomeOf, AnswerExit};
@@ -10,7 +12,7 @@ use encryption_calls::{encaps, encrypt, keygen};
 use vectors::lengths;
 
 // What a call answered: its status, and how many bytes of its output stand in the first and in the second buffer.
-#[derive(Drop)]
+#[derive(Clone, Copy)]
 pub struct Outcome {
     pub status: u32,
     pub first: usize,

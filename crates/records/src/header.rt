@@ -3,7 +3,7 @@ ghost use Rattle.std.specs.Prelude.{◌≡◌, ◌&&◌, ◌≤◌, length};
 ghost use Rattle.records.specs.Header.{is_marked, body_length, is_cut, is_kind, read_header};
 
 // A header is either whole or refused; or nothing is left.
-#[derive(Drop)]
+#[derive(Clone, Copy)]
 pub enum Header {
     // The kind, the set and the length of the body, which is there.
     Whole(u8, u8, u16),

@@ -1,4 +1,6 @@
 // Records (01, "Records on standard input").
+#![tactic(auto)]
+
 pub mod header;
 pub mod step;
 pub mod window;

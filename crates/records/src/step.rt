@@ -12,7 +12,7 @@ use crate::header::Header;
 pub const MOST_RECORDS: usize = 65535;
 
 // What a step leaves.
-#[derive(Drop)]
+#[derive(Clone, Copy)]
 pub struct Stepped {
     // How many records have been answered.
     pub done: usize,

@@ -1,2 +1,4 @@
 // Polynomials modulo X^n + 1, and their products.
+#![tactic(auto)]
+
 pub mod poly;

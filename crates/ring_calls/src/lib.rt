@@ -1,4 +1,6 @@
 // Calls of the ring layer for C hosts: its tests and its benchmark. They are no part of the library.
+#![tactic(auto)]
+
 ghost use Rattle.std.specs.Prelude.{◌≡◌, cond, ◌*◌, ◌≤◌, pos, length, replicate};
 ghost use Rattle.bits.specs.Bits.{bytes_for, pack, unpack, low_bits};
 ghost use Rattle.ring.specs.Coefficients.{Factors, with_product};

@@ -3,6 +3,8 @@
 // each with the low byte first, the number n of coefficients, p and a bound; a list has n
 // coefficients of two bytes each. A case that is cut short, of another kind, with w over 16 or n
 // over 512, ends the run.
+#![tactic(auto)]
+
 ghost use Rattle.std.specs.Prelude.{◌≡◌, ◌+◌, ◌*◌, ◌<◌, ◌≤◌, length, replicate, pos};
 ghost use Rattle.bits.specs.Bits.{bytes_for};
 ghost use Rattle.ring.specs.Integers.{largest};

@@ -1,5 +1,7 @@
 // The C interface of the KINDI library. Each call answers by its arguments alone and asks nothing of
 // them: no call has a `requires`.
+#![tactic(auto)]
+
 ghost use Rattle.calls.specs.Exits.{ShakeExit};
 ghost use Rattle.encryption_calls.specs.Exits.{KeygenExit, EncryptExit, EncapsExit};
 ghost use Rattle.recipients.specs.Exits.{EncryptEachExit};

@@ -3,6 +3,8 @@
 // output, two bytes each, the place of the first byte wanted, four bytes, all with the low byte
 // first, and the input. A case that is cut short, of another kind, or too long for the buffers of
 // 65,536 bytes, ends the run.
+#![tactic(auto)]
+
 ghost use Rattle.std.specs.Prelude.{◌≡◌, ◌+◌, ◌*◌, length};
 
 use libc::{STDIN_FILENO, STDOUT_FILENO};

@@ -1,5 +1,7 @@
 // Polynomials modulo X^n + 1 with integer coefficients (01, "Noise"): centred secrets and errors, their products, and the
 // size of what comes out.
+#![tactic(auto)]
+
 ghost use Rattle.std.specs.Prelude.{◌≡◌, ◌++◌, ◌+◌, ◌*◌, ◌/◌, ◌^◌, ◌<◌, max, nat_abs, neg_ℤ, ◌+ℤ◌, ◌*ℤ◌, length};
 ghost use Rattle.bits.specs.Bits.{Below};
 ghost use Rattle.ring.specs.Integers.{centred, largest, all_between};

@@ -1,5 +1,7 @@
 // Vectors of polynomials, one after another in a slice, with coefficients modulo 2^16; the lengths of a set's strings; whether
 // two strings are the same.
+#![tactic(auto)]
+
 pub mod lengths;
 pub mod strings;
 
