@@ -11,7 +11,7 @@ use lib.ListN.{length, take, drop, set, length-append}
 use lib.Seq.{take-suc-set, drop-set-lt, drop-drop}
 use Rattle.keccak.specs.Lists.{concat_map, patched}
 use Rattle.keccak.proofs.Parts.{take-patched, drop-patched, concat_map-append}
-use Rattle.hex.specs.Digits.{digit, byte_digits, hexadecimal}
+use Rattle.hex_digits.specs.Digits.{digit, byte_digits, hexadecimal}
 use Rattle.lines.specs.Line.{Written, decimal_in, decimal, fields, kind_field, output_field, line, end_line, feeds}
 
 -- ---- writing

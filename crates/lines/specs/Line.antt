@@ -1,6 +1,6 @@
 -- The lines that `linkcheck` prints (01, "Records on standard input"), in ASCII. Rests on hex's digits.
 use Rattle.std.specs.Prelude.{◌≡◌, Bool, cond, List, [], ◌∷◌, ◌++◌, ℕ, zero, suc, ◌+◌, ◌/◌, ◌%◌, eqb, ltb, length, take, drop}
-use Rattle.hex.specs.Digits.{hexadecimal}
+use Rattle.hex_digits.specs.Digits.{hexadecimal}
 
 -- A number in decimal, in at most so many places.
 unfoldable pub decimal_in : ℕ → ℕ → List ℕ

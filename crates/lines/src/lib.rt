@@ -3,7 +3,7 @@
 #![tactic(auto)]
 
 ghost use Rattle.std.specs.Prelude.{[], ◌∷◌, ◌++◌, ◌+◌, ◌*◌, ◌≤◌, ◌<◌, length};
-ghost use Rattle.hex.specs.Digits.{hexadecimal};
+ghost use Rattle.hex_digits.specs.Digits.{hexadecimal};
 ghost use Rattle.lines.specs.Line.{Written, decimal, kind_field, output_field, line, end_line};
 
 // One byte.
@@ -54,7 +54,7 @@ fn put_hex(bytes: &[u8], at: usize, out: &mut [u8]) -> usize
     ensures { Written out.old at (hexadecimal bytes.now) result out.new }
 {
     let end = at + 2 * bytes.len();
-    hex::spell(bytes, &mut out[at..end]);
+    hex_digits::spell(bytes, &mut out[at..end]);
     end
 }
 

@@ -36,7 +36,7 @@ fn write_line(answer: &[u8]) -> bool {
         return false;
     }
     let m = 2 * answer.len();
-    hex::spell(answer, &mut line[..m]);
+    hex_digits::spell(answer, &mut line[..m]);
     line[m] = 10;
     io::write_all(STDOUT_FILENO, &line[..m + 1])
 }
@@ -316,8 +316,8 @@ fn one_case() -> bool {
         return false;
     }
     let w = wide(head[1]);
-    let n = hex::pair(head[2], head[3]) as usize;
-    let p = hex::pair(head[4], head[5]);
+    let n = hex_digits::pair(head[2], head[3]) as usize;
+    let p = hex_digits::pair(head[4], head[5]);
     if 16 < w {
         return false;
     }
@@ -325,7 +325,7 @@ fn one_case() -> bool {
         return false;
     }
     if head[0] == 4 {
-        return run_signed(w, n, p, hex::pair(head[6], head[7]));
+        return run_signed(w, n, p, hex_digits::pair(head[6], head[7]));
     }
     run(head[0], w, n, p)
 }

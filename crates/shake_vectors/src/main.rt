@@ -30,15 +30,15 @@ fn answer(kind: u8, input: &[u8], place: usize, output: &mut [u8], line: &mut [u
         return false;
     }
     let m = 2 * output.len();
-    hex::spell(output, &mut line[..m]);
+    hex_digits::spell(output, &mut line[..m]);
     line[m] = 10;
     io::write_all(STDOUT_FILENO, line)
 }
 
 // The number of four bytes, low byte first.
 fn number(a: u8, b: u8, c: u8, d: u8) -> usize {
-    let low = hex::pair(a, b) as usize;
-    let high = hex::pair(c, d) as usize;
+    let low = hex_digits::pair(a, b) as usize;
+    let high = hex_digits::pair(c, d) as usize;
     low + 65536 * high
 }
 
@@ -48,8 +48,8 @@ fn one_case(input: &mut [u8], output: &mut [u8], line: &mut [u8]) -> bool {
     if io::read_full(STDIN_FILENO, &mut head) != 9 {
         return false;
     }
-    let n = hex::pair(head[1], head[2]) as usize;
-    let m = hex::pair(head[3], head[4]) as usize;
+    let n = hex_digits::pair(head[1], head[2]) as usize;
+    let m = hex_digits::pair(head[3], head[4]) as usize;
     let place = number(head[5], head[6], head[7], head[8]);
     let end = 2 * m + 1;
     if input.len() < n {

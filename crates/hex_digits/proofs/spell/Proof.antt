@@ -1,14 +1,14 @@
--- `hex::spell` meets its contract: the line is filled byte by byte.
+-- `hex_digits::spell` meets its contract: the line is filled byte by byte.
 -- Assumes nothing.
 use mathlib.Core.Path.{refl, ap}
 use Prim.Native.Nat.{◌-◌}
 use native.Mathlib.Omega.{arith}
 use lib.ListN.{length, length-take, length-drop}
-use Rattle.hex.specs.Digits.{byte_digits, hexadecimal}
+use Rattle.hex_digits.specs.Digits.{byte_digits, hexadecimal}
 use borrow.Author.Rules.{rules}
 use Rattle.keccak.proofs.Parts.{PartsWritten, parts_begun, parts_more, parts_all}
-use Rattle.hex.proofs.spell.Statement.{statement}
-use Rattle.hex.proofs.spell.Tie as tie
+use Rattle.hex_digits.proofs.spell.Statement.{statement}
+use Rattle.hex_digits.proofs.spell.Tie as tie
 
 abbrev invariant-loop : tie.invariant-loop
 invariant-loop bytes line₀ i₀ line i = PartsWritten byte_digits bytes 2 (length bytes) i line

@@ -1,9 +1,9 @@
--- `hex::digit` meets its contract: the letters start at 97.
+-- `hex_digits::digit` meets its contract: the letters start at 97.
 -- Assumes nothing.
 use borrow.Author.Rules.{rules}
 use borrow.Author.Tests.{lt-ltb, le-ltb}
-use Rattle.hex.proofs.digit.Statement.{statement}
-use Rattle.hex.proofs.digit.Tie as tie
+use Rattle.hex_digits.proofs.digit.Statement.{statement}
+use Rattle.hex_digits.proofs.digit.Tie as tie
 
 add-result : tie.Need-overflow-add-result
 add-result c = search rules

@@ -1,4 +1,4 @@
--- `hex::spell_byte` meets its contract: the high digit stands first.
+-- `hex_digits::spell_byte` meets its contract: the high digit stands first.
 -- Assumes nothing.
 use mathlib.Core.Path.{ap, ap₂, ◌∙◌}
 use mathlib.Core.List.{List, [], ◌∷◌}
@@ -7,9 +7,9 @@ use native.Mathlib.Omega.{arith}
 use borrow.Author.Rules.{rules}
 use lib.ListN.{drop_of_length-le}
 use lib.Seq.{sets-eq}
-use Rattle.hex.specs.Digits.{byte_digits}
-use Rattle.hex.proofs.spell_byte.Statement.{statement}
-use Rattle.hex.proofs.spell_byte.Tie as tie
+use Rattle.hex_digits.specs.Digits.{byte_digits}
+use Rattle.hex_digits.proofs.spell_byte.Statement.{statement}
+use Rattle.hex_digits.proofs.spell_byte.Tie as tie
 
 digit-requires : tie.Need-digit-requires
 digit-requires c κs = search rules

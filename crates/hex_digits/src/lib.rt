@@ -2,7 +2,7 @@
 #![tactic(auto)]
 
 ghost use Rattle.std.specs.Prelude.{◌≡◌, ◌+◌, ◌*◌, ◌<◌, length};
-ghost use Rattle.hex.specs.Digits.{digit, byte_digits, hexadecimal};
+ghost use Rattle.hex_digits.specs.Digits.{digit, byte_digits, hexadecimal};
 
 // The number of two bytes, low byte first.
 pub fn pair(low: u8, high: u8) -> u16

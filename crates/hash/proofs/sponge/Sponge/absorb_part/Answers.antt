@@ -1,0 +1,19 @@
+-- `hash::sponge::Sponge::absorb_part` meets its contract: the part is added into the string at the sponge's place.
+-- Assumes nothing.
+use mathlib.Core.Path.{◌≡◌}
+use native.Mathlib.Omega.{arith}
+use borrow.Author.Rules.{rules}
+use lib.ListN.{length}
+use Rattle.hash.proofs.Steps.{part-absorbed}
+use Rattle.hash.proofs.sponge.Sponge.absorb_part.Goals as goal
+
+pub OLD-slice-bounds-bytes-end : goal.OLD-slice-bounds-bytes-end
+OLD-slice-bounds-bytes-end c =
+    let long : length c.args.self.bytes ≡ 200 = search rules in
+    omega arith
+
+pub returns : goal.returns
+returns c =
+    let a = c.args in
+    let long : length a.self.bytes ≡ 200 = search rules in
+    part-absorbed a.self 200 c.xor_into.last.0 a.part.now long c.requires.0 c.xor_into.ensures

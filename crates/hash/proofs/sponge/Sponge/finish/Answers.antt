@@ -1,0 +1,31 @@
+-- `hash::sponge::Sponge::finish` meets its contract: the two bytes that it adds are the padding (`Finish`).
+-- Assumes nothing.
+use native.Mathlib.Omega.{arith}
+use borrow.Author.Rules.{rules}
+use Rattle.hash.proofs.Finish.{finish_is}
+use Rattle.hash.proofs.Steps.{Ready, is_ready_as}
+use Rattle.hash.proofs.sponge.Sponge.finish.Goals as goal
+use Rattle.hash.proofs.sponge.Sponge.finish.Goals.{After-ready-t}
+
+-- The place and the rate of the ready sponge are within the string.
+ready-here : (c : After-ready-t) →
+    Ready c.args.self c.ready-t.result
+ready-here c = is_ready_as _ _ c.requires c.ready-t.ensures
+
+pub overflow_sub-last : goal.overflow_sub-last
+overflow_sub-last c = omega (arith, ready-here (search))
+
+pub bounds-bytes-at : goal.bounds-bytes-at
+bounds-bytes-at c = omega (arith, ready-here (search))
+
+pub bounds-bytes-at-2 : goal.bounds-bytes-at-2
+bounds-bytes-at-2 c = omega (arith, ready-here (search))
+
+pub bounds-bytes-last : goal.bounds-bytes-last
+bounds-bytes-last c = omega (arith, ready-here (search))
+
+pub bounds-bytes-last-2 : goal.bounds-bytes-last-2
+bounds-bytes-last-2 c = omega (arith, ready-here (search))
+
+pub returns : goal.returns
+returns c = finish_is c.args.self c.ready-t.result c.requires c.ready-t.ensures
