@@ -1,7 +1,6 @@
 -- `hash::shake` meets its contract: the first bytes are those from place 0 on.
 -- Assumes nothing.
 use mathlib.Core.Path.{◌∙◌}
-use borrow.Author.Rules.{rules}
 use Rattle.hash.proofs.Laws.{shake-from-start}
 use Rattle.hash.proofs.shake.Goals as goal
 

@@ -7,8 +7,8 @@ use lib.ListN.{length}
 use Rattle.hash.proofs.Steps.{part-absorbed}
 use Rattle.hash.proofs.sponge.Sponge.absorb_part.Goals as goal
 
-pub OLD-slice-bounds-bytes-end : goal.OLD-slice-bounds-bytes-end
-OLD-slice-bounds-bytes-end c =
+pub slice_bounds-bytes-end : goal.slice_bounds-bytes-end
+slice_bounds-bytes-end c =
     let long : length c.args.self.bytes ≡ 200 = search rules in
     omega arith
 
@@ -16,4 +16,4 @@ pub returns : goal.returns
 returns c =
     let a = c.args in
     let long : length a.self.bytes ≡ 200 = search rules in
-    part-absorbed a.self 200 c.xor_into.last.0 a.part.now long c.requires.0 c.xor_into.ensures
+    part-absorbed a.self 200 c.xor_into.new.dst a.part.now long c.requires.0 c.xor_into.ensures

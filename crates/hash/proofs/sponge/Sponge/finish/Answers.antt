@@ -1,7 +1,6 @@
 -- `hash::sponge::Sponge::finish` meets its contract: the two bytes that it adds are the padding (`Finish`).
 -- Assumes nothing.
 use native.Mathlib.Omega.{arith}
-use borrow.Author.Rules.{rules}
 use Rattle.hash.proofs.Finish.{finish_is}
 use Rattle.hash.proofs.Steps.{Ready, is_ready_as}
 use Rattle.hash.proofs.sponge.Sponge.finish.Goals as goal

@@ -2,7 +2,6 @@
 use mathlib.Core.Path.{ap}
 use mathlib.Core.List.{List}
 use Prim.Native.Nat.{ℕ}
-use borrow.Author.Rules.{rules}
 use Rattle.hash.proofs.Steps.{sponge}
 use Rattle.hash.specs.Stream.{permuted}
 use Rattle.hash.proofs.sponge.Sponge.permute.Goals as goal

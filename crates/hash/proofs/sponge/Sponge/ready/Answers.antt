@@ -1,7 +1,6 @@
 -- `hash::sponge::Sponge::ready` meets its contract: a full block is permuted, and another is left as it is.
 -- Assumes nothing.
 use mathlib.Core.Path.{sym, ◌∙◌}
-use borrow.Author.Rules.{rules}
 use Rattle.hash.proofs.Steps.{ready_full, ready_other}
 use Rattle.hash.proofs.sponge.Sponge.ready.Goals as goal
 

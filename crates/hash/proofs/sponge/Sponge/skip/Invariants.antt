@@ -1,8 +1,7 @@
 -- `hash::sponge::Sponge::skip` meets its contract: after each turn the sponge has advanced by `skipped` bytes.
 -- Assumes nothing.
 use Prim.Native.Nat.{◌-◌}
-use native.Mathlib.Omega.{arith}
-use Rattle.hash.proofs.Steps.{Advancing, advancing_begun, advancing_ready, advancing_more, advancing_all}
+use Rattle.hash.proofs.Steps.{Advancing}
 use Rattle.hash.proofs.sponge.Sponge.skip.Given as goal
 
 abbrev pub invariant-loop-skipped : goal.invariant-loop-skipped

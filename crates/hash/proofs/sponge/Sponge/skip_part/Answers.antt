@@ -1,6 +1,5 @@
 -- `hash::sponge::Sponge::skip_part` meets its contract: within a block only the place moves.
 -- Assumes nothing.
-use borrow.Author.Rules.{rules}
 use Rattle.hash.proofs.Steps.{part_skipped}
 use Rattle.hash.proofs.sponge.Sponge.skip_part.Goals as goal
 

@@ -2,12 +2,10 @@
 -- the sponge has advanced by as much.
 -- Assumes nothing.
 use mathlib.Core.Path.{refl}
-use Prim.Native.Nat.{◌-◌}
 use native.Mathlib.Omega.{arith}
-use lib.ListN.{length, length-take, length-drop}
-use borrow.Author.Rules.{rules}
+use lib.ListN.{length-take, length-drop}
 use Rattle.hash.specs.Stream.{squeezed}
-use Rattle.hash.proofs.Steps.{Squeezing, advancing_begun, advancing_ready, squeezing_more, squeezing_all}
+use Rattle.hash.proofs.Steps.{advancing_begun, advancing_ready, squeezing_more, squeezing_all}
 use Rattle.hash.proofs.sponge.Sponge.squeeze.Goals as goal
 
 pub loop-done-init : goal.loop-done-init

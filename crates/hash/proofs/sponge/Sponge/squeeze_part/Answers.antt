@@ -7,8 +7,8 @@ use lib.ListN.{length}
 use Rattle.hash.proofs.Steps.{part-squeezed}
 use Rattle.hash.proofs.sponge.Sponge.squeeze_part.Goals as goal
 
-pub OLD-slice-bounds-copy-end : goal.OLD-slice-bounds-copy-end
-OLD-slice-bounds-copy-end c =
+pub slice_bounds-copy-end : goal.slice_bounds-copy-end
+slice_bounds-copy-end c =
     let long : length c.args.self.bytes ≡ 200 = search rules in
     omega arith
 
