@@ -1,6 +1,6 @@
 -- What a word of a string has of its coefficients, and how the digits of a word are kept and moved. Assumes nothing.
 use mathlib.Core.Path.{◌≡◌, sym, ap, ap₂, ◌∙◌}
-use mathlib.Core.List.{List}
+use mathlib.Core.List.{List, ◌++◌}
 use Prim.Native.Nat.{ℕ, ◌+◌, ◌-◌, ◌*◌, ◌/◌, ◌%◌, ◌^◌, ◌≤◌, ◌<◌}
 use native.Mathlib.Nat.{mul-add, mul_assoc, mod-lt, mod-eq_of_lt, lt_of_lt_of_le, one-mul}
 use native.Mathlib.Omega.{arith}
@@ -10,7 +10,7 @@ use lib.Pow.{mod-pow-add, pow-add, pow-lt, pow_pos, pow_mono, high_ones, ones_lt
 use lib.Seq.{get_or-drop}
 use Rattle.keccak.specs.Lists.{tabulate, value, digits}
 use Rattle.keccak.proofs.Parts.{length_digits}
-use Rattle.bits.proofs.Digits.{digits_low, digits_below, digits_of_value, digits-tabulate, value-drop, four_bytes}
+use Rattle.bits.proofs.Digits.{digits-add, digits_low, digits_below, digits_of_value, digits-tabulate, value-drop, four_bytes}
 use Rattle.bits.specs.Bits.{Below}
 
 -- ---- the bits that a word has
@@ -54,11 +54,26 @@ eight_bytes bs h =
     let swap : v % 2 ^ 32 + 2 ^ 32 * (v / 2 ^ 32 % 2 ^ 32) ≡ (v / 2 ^ 32 % 2 ^ 32) * 2 ^ 32 + v % 2 ^ 32 = omega arith in
     ap₂ (λ (a b : ℕ). a + 2 ^ 32 * b) (sym (four_bytes bs h)) high ∙ swap ∙ sym (mod-pow-add v 32 32)
 
+-- Eight coefficients from two words: the second starts at half of their w bytes, in the middle of a byte where w is odd.
+pub two_words : (w : ℕ) (bs : List ℕ) → Below 256 bs → w ≤ 16
+    → digits w 4 (value 8 bs % 2 ^ 64) ++ digits w 4 (value 8 (drop (w / 2) bs) % 2 ^ 64 / 2 ^ (4 * (w % 2))) ≡ digits w 8 (value 8 bs)
+two_words w bs h small =
+    let v = value 8 bs in
+    let middle : 8 * (w / 2) + 4 * (w % 2) ≡ w * 4 = omega arith in
+    let room : w / 2 + w % 2 ≤ 8 = omega arith in
+    ap₂ ◌++◌ (digits_low w 4 64 v (omega arith))
+    (digits_from 64 w 4 (w / 2) (4 * (w % 2)) bs h (omega arith) ∙ ap (λ (k : ℕ). digits w 4 (v / 2 ^ k)) middle)
+    ∙ sym (digits-add w 4 4 v)
+
 -- The bits of the first 8·t coefficients of n, which fill w·t bytes, and those of the rest.
 pub rest-parts : (w n t : ℕ) → 8 * t ≤ n → 8 * (w * t) + w * (n - 8 * t) ≡ w * n
 rest-parts w n t h =
     let parts : 8 * t + (n - 8 * t) ≡ n = omega arith in
     omega (arith, mul-add w (8 * t) (n - 8 * t), ap (λ (x : ℕ). w * x) parts)
+
+-- After t turns of eight coefficients the rest of the string has the rest of them.
+pub rest_fits : (w n t m : ℕ) → 8 * t ≤ n → w * n ≤ 8 * m → w * (n - 8 * t) ≤ 8 * (m - w * t)
+rest_fits w n t m h room = omega (arith, rest-parts w n t h)
 
 -- ---- masks
 

@@ -8,7 +8,60 @@ ghost use Rattle.keccak.specs.Lists.{value, digits};
 ghost use Rattle.bits.specs.Bits.{bytes_for, pack, unpack, low_bits};
 
 use bits::low_bits;
-use reader::Cursor;
+use reader::{Cursor, low_word, put_four, word};
+
+// The w bits from bit `shift` of byte k on.
+fn field(w: u32, src: &[u8], k: usize, shift: u32) -> u16
+    requires { (w ≤ 16) × (shift < 8) × (k ≤ length src.now) }
+    ensures { result ≡ value 8 src.now / 2 ^ (8 * k + shift) % 2 ^ w }
+{
+    low_bits(low_word(&src[k..]) >> shift, w)
+}
+
+// One coefficient a turn.
+fn unpack_each(w: u32, src: &[u8], dst: &mut [u16])
+    requires { (w ≤ 16) × (w * length dst.old ≤ 8 * length src.now) }
+    ensures { dst.new ≡ unpack w (length dst.old) src.now }
+{
+    let mut k = 0;
+    let mut shift = 0;
+    let mut i = 0;
+    while i < dst.len() {
+        dst[i] = field(w, src, k, shift);
+        k += ((shift + w) / 8) as usize;
+        shift = (shift + w) % 8;
+        i += 1;
+    }
+}
+
+// Eight coefficients: four in the word from byte 0 on, and four in the word from byte w / 2 on.
+fn unpack_eight(w: u32, src: &[u8], dst: &mut [u16])
+    requires { (w ≤ 16) × (w / 2 + 8 ≤ length src.now) × (length dst.old ≡ 8) }
+    ensures { dst.new ≡ unpack w 8 src.now }
+{
+    let half = (w / 2) as usize;
+    put_four(&mut dst[..4], word(src), w);
+    put_four(&mut dst[4..], word(&src[half..]) >> (4 * (w % 2)), w);
+}
+
+// Eight coefficients, which fill w bytes, a turn, as long as whole words can be read; returns the number of turns.
+fn unpack_eights(w: u32, src: &[u8], dst: &mut [u16]) -> usize
+    requires { w ≤ 16 }
+    ensures { (8 * result ≤ length dst.old) × (w * result ≤ length src.now)
+        × (dst.new ≡ unpack w (8 * result) src.now ++ drop (8 * result) dst.old) }
+{
+    let mut turns = 0;
+    while 8 <= dst.len() - 8 * turns {
+        let k = w as usize * turns;
+        let i = 8 * turns;
+        if src.len() - k < (w / 2) as usize + 8 {
+            return turns;
+        }
+        unpack_eight(w, &src[k..], &mut dst[i..i + 8]);
+        turns += 1;
+    }
+    turns
+}
 
 pub fn unpack(w: u32, src: &[u8], dst: &mut [u16])
     requires { (w ≤ 16) × (w * length dst.old ≤ 8 * length src.now) }

@@ -42,7 +42,7 @@ fn join(a: u8, b: u8, c: u8, d: u8) -> u32
 }
 
 // The first 32 bits; those past the end are 0.
-fn low_word(s: &[u8]) -> u32
+pub(crate) fn low_word(s: &[u8]) -> u32
     ensures { result ≡ value 8 s.now % 2 ^ 32 }
 {
     if 4 <= s.len() {
@@ -57,7 +57,7 @@ fn low_word(s: &[u8]) -> u32
 }
 
 // The first 64 bits.
-fn word(s: &[u8]) -> u64
+pub(crate) fn word(s: &[u8]) -> u64
     requires { 8 ≤ length s.now }
     ensures { result ≡ value 8 s.now % 2 ^ 64 }
 {
@@ -75,13 +75,13 @@ fn pairs(x: u64, w: u32) -> u64
     (x & mask) + (x & (mask << two)) * ((1 << 32) >> two)
 }
 
-// The two digits of either half of x in base 2^w, at places of 16 bits.
+// The first two digits of either half of x in base 2^w, at places of 16 bits.
 fn singles(x: u64, w: u32) -> u64
-    requires { (w ≤ 16) × (x % 2 ^ 32 < 2 ^ (2 * w)) × (x / 2 ^ 32 < 2 ^ (2 * w)) }
+    requires { w ≤ 16 }
     ensures { result ≡ two_apart w (x % 2 ^ 32) + two_apart w (x / 2 ^ 32) * 2 ^ 32 }
 {
-    let first = x & (((1 << w) - 1) * 4294967297);
-    first + (x - first) * (65536 >> w)
+    let masks = ((1 << w) - 1) * 4294967297;
+    (x & masks) + (x & (masks << w)) * (65536 >> w)
 }
 
 // The first four digits of x in base 2^w, as digits in base 2^16: first pairs of them are moved apart, then the two of each.
@@ -99,7 +99,7 @@ fn low_half(x: u64) -> u16
 }
 
 // Writes the first four digits of x in base 2^w.
-fn put_four(dst: &mut [u16], x: u64, w: u32)
+pub(crate) fn put_four(dst: &mut [u16], x: u64, w: u32)
     requires { (w ≤ 16) × (length dst.old ≡ 4) }
     ensures { dst.new ≡ digits w 4 x }
 {

@@ -1,15 +1,10 @@
 -- `bits::load` meets its contract: after i turns the first i coefficients are loaded.
 -- Assumes nothing.
-use mathlib.Core.Path.{◌≡◌, refl, sym, ◌∙◌}
-use Prim.Native.Nat.{◌+◌, ◌*◌, ◌/◌, ◌%◌, ◌^◌, ◌-◌, ℕ}
-use native.Mathlib.Omega.{arith}
-use borrow.Author.Rules.{rules}
-use lib.ListN.{length, get_or}
+use Prim.Native.Nat.{◌*◌, ◌/◌, ◌%◌, ◌^◌, ◌-◌, ℕ}
+use lib.ListN.{length}
 use Rattle.keccak.specs.Lists.{value}
-use Rattle.bits.proofs.Digits.{digits-tabulate, pair_digit, value_at}
-use Rattle.bits.specs.Bits.{Below, unpack}
 use mathlib.Core.List.{List}
-use Rattle.bits.proofs.Filling.{Filling, filling_begun, filling_more, filling_all}
+use Rattle.bits.proofs.Filling.{Filling}
 use Rattle.bits.proofs.load.Given as goal
 
 -- The coefficients that the bytes have.

@@ -1,7 +1,6 @@
 -- `bits::low_bits` meets its contract: the mask keeps the low bits.
 -- Assumes nothing.
 use native.Mathlib.Omega.{arith}
-use borrow.Author.Rules.{rules}
 use lib.Pow.{pow_pos}
 use Rattle.bits.proofs.Words.{one_at, mask_keeps, digit_below}
 use Rattle.bits.proofs.low_bits.Goals as goal

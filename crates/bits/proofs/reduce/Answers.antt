@@ -2,11 +2,10 @@
 -- Assumes nothing.
 use mathlib.Core.List.{map}
 use mathlib.Core.Path.{refl, sym, ap, ◌∙◌}
-use Prim.Native.Nat.{ℕ, ◌%◌, ◌^◌, ◌-◌}
+use Prim.Native.Nat.{ℕ, ◌%◌, ◌^◌}
 use native.Mathlib.Omega.{arith}
-use borrow.Author.Rules.{rules}
 use lib.ListN.{length, get_or}
-use Rattle.bits.proofs.Filling.{tabulate_entries, map-tabulate, Filling, filling_begun, filling_more, filling_at, filling_all}
+use Rattle.bits.proofs.Filling.{tabulate_entries, map-tabulate, filling_begun, filling_more, filling_at, filling_all}
 use Rattle.bits.specs.Bits.{low_bits}
 use Rattle.bits.proofs.reduce.Goals as goal
 

@@ -1,17 +1,16 @@
 -- `bits::store` meets its contract: after i turns the first i coefficients are stored.
 -- Assumes nothing.
 use mathlib.Core.Path.{◌≡◌, refl, sym, ap, ◌∙◌}
-use Prim.Native.Nat.{ℕ, ◌+◌, ◌*◌, ◌/◌, ◌%◌, ◌^◌, ◌-◌, ◌<◌}
+use Prim.Native.Nat.{ℕ, ◌+◌, ◌*◌, ◌/◌, ◌%◌, ◌^◌, ◌<◌}
 use native.Mathlib.Nat.{mod-lt}
 use native.Mathlib.Omega.{arith}
-use borrow.Author.Rules.{rules}
 use lib.ListN.{length, get_or, length-set}
 use lib.Pow.{pow_pos}
 use Rattle.keccak.specs.Lists.{digits, value}
 use Rattle.bits.proofs.Digits.{first_digit, later_digits, digits-tabulate, pair_digit, value_at}
 use Rattle.bits.specs.Bits.{Below, bytes_for, pack}
 use mathlib.Core.List.{List}
-use Rattle.bits.proofs.Filling.{Filling, filling_begun, filling_more, filling_all}
+use Rattle.bits.proofs.Filling.{filling_begun, filling_more, filling_all}
 use Rattle.bits.proofs.store.Invariants.{bytes_of}
 use Rattle.bits.proofs.store.Goals as goal
 
