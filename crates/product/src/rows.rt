@@ -6,7 +6,7 @@ ghost use Rattle.product.specs.Toeplitz.{Matrix, with_toeplitz};
 
 use ring::poly::{add, add_term};
 
-// Adds a column times a: acc + typeof.a.row.
+// Adds a column times a: acc + a·row.
 fn add_column(acc: &mut [u16], row: &[u16], a: u16)
     requires { length row.now ≡ length acc.old }
     ensures { acc.new ≡ tabulate (length acc.old) (λ k. add_term (get_or acc.old k 0) a (get_or row.now k 0)) }
