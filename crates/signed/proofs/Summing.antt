@@ -1,5 +1,5 @@
 -- Laws of the sums of products that `signed::dot` and `signed::multiply_add` carry from turn to turn, over the integers. Assumes nothing.
-use mathlib.Core.Path.{◌≡◌, sym, ap, ap₂, ◌∙◌}
+use mathlib.Core.Path.{◌≡◌, refl, sym, ap, ap₂, ◌∙◌}
 use mathlib.Core.List.{List, ◌++◌}
 use Prim.Native.Nat.{ℕ, ◌+◌, ◌-◌, ◌*◌, ◌^◌, ◌≤◌, ◌<◌}
 use native.Mathlib.Nat.{le_refl, lt_of_le_of_lt, mul-le-mul, add-zero}
@@ -71,6 +71,22 @@ module _ {a b : List ℤ} {i total : ℕ} (h : Summed a b i total) where
 
     pub summed_more : Summed a b (i + m) (of_z w32 (to_z w32 total +ℤ to_z w32 (of_z w32 r)))
     summed_more = record { same = h.same; small = h.small; within = room; is = ap (of_z w32) next_value }
+
+-- The same of a number x with the sum of the first i products.
+module _ (a b : List ℤ) {i : ℕ} {x : ℤ} (both : (length b ≡ length a) × (length a * (largest a * largest b) < 2 ^ 31)) (within : i ≤ length a)
+    (has : x ≡ sum i (terms a b)) where
+  summed : Summed a b i (of_z w32 (sum i (terms a b)))
+  summed = record { same = both.0; small = both.1; within = within; is = refl }
+
+  held : x ≡ to_z w32 (of_z w32 (sum i (terms a b)))
+  held = has ∙ sym (summed_value summed)
+
+  module _ (m : ℕ) {r : ℤ} (room : i + m ≤ length a) (word : SFits w32 r) (is : r ≡ sum m (λ j. terms a b (i + j))) where
+    pub sum_fits : SFits w32 (x +ℤ to_z w32 (of_z w32 r))
+    sum_fits = rw held (summed_fits summed m room word is)
+
+    pub sum_more : to_z w32 (of_z w32 (x +ℤ to_z w32 (of_z w32 r))) ≡ sum (i + m) (terms a b)
+    sum_more = rw held (summed_value (summed_more summed m room word is))
 
 -- The product of two entries, read as words, is a sum of one term.
 pub one_term : (a b : List ℤ) (i : ℕ) {r : ℤ} → SFits w16 (of_ints a i) → SFits w16 (of_ints b i)
