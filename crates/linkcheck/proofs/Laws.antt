@@ -10,6 +10,9 @@ use borrow.Author.Tests.{eqb-true, eqb-false, not-true, not-false, le-leb, lt-le
 use lib.Dec.{eqb}
 use lib.ListN.{length, take, drop, replicate, length-take, length-drop, length-append}
 use lib.Seq.{drop-nil, length-take-le, take_at, take-take, take-append-le}
+use Rattle.std.specs.Prelude.{Result, Ok, Err}
+use Rattle.std.specs.Result.{result_unwrap_or}
+use Rattle.std.specs.Io.{ReadsAtMost}
 use Rattle.keccak.specs.Lists.{patched}
 use Rattle.lines.specs.Line.{Written}
 use Rattle.records.specs.declared.step.Stepped.{Stepped}
@@ -32,6 +35,12 @@ falls false len end more e h = omega (arith, eqb-false more 0 e)
 pub read_falls : {len len' : ℕ} {more : Bool} (end count : ℕ) → more ≡ true → len' ≡ len → end + count ≤ len
     → (len' - (end + count)) + cond (not (eqb count 0)) 1 0 < (len - end) + cond more 1 0
 read_falls {len} end count on long inside = rw (on, long) (falls (eqb count 0) len end count refl inside)
+
+-- A read gives no more bytes than its buffer has, and none where it failed.
+pub count_within : {E : Type 0} (r : Result ℕ E) (buf : List ℕ) {count : ℕ} → count ≡ result_unwrap_or r 0 → ReadsAtMost r buf
+    → count ≤ length buf
+count_within (Ok n) buf e h = rw e h.0
+count_within (Err x) buf e h = omega arith
 
 -- What was written stands within the buffer.
 pub written_within : {entry text exit : List ℕ} {at next : ℕ} → Written entry at text next exit → at ≤ length entry → next ≤ length exit
