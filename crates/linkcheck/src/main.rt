@@ -8,7 +8,7 @@ ghost use Rattle.std.specs.Prelude.{◌≡◌, ◌≤◌, length};
 ghost use Rattle.records.specs.Steps.{line_room};
 ghost use Rattle.linkcheck.specs.Turns.{Places, flushed, RoomMade, Filled, Ready, Wiped, AnswerRoom, Answered};
 
-use libc::{STDIN_FILENO, STDOUT_FILENO};
+use std::io::{Read, Write};
 
 // The room that the longest line takes, `line_room`.
 const LINE: usize = 18518;
@@ -37,24 +37,24 @@ fn second_part() -> [u8; 5120]
 }
 
 // Writes what the output has.
-fn flush(s: State, out: &[u8]) -> State
+fn flush<W: Write>(s: State, writer: &mut W, out: &[u8]) -> State
     requires { s.at ≤ length out.now }
     ensures { result ≡ flushed s result.ended }
 {
     let at = s.at;
-    let written = io::write_all(STDOUT_FILENO, &out[..at]);
+    let failed = writer.write_all(&out[..at]).is_err();
     State {
         from: s.from,
         to: s.to,
         more: s.more,
         done: s.done,
         at: 0,
-        ended: !written,
+        ended: failed,
     }
 }
 
 // Reads until the input shows a record, or ends.
-fn fill(s: State, input: &mut [u8]) -> State
+fn fill<R: Read>(s: State, reader: &mut R, input: &mut [u8]) -> State
     requires { (s.from ≤ s.to) × (s.to ≤ length input.old) }
     ensures { Filled s input.old result input.new }
 {
@@ -67,8 +67,7 @@ fn fill(s: State, input: &mut [u8]) -> State
         if records::window::shows_record(&input[..end]) {
             break;
         }
-        let got = libc::read(STDIN_FILENO, &mut input[end..]);
-        let count = io::count(got, &input[end..]);
+        let count = reader.read(&mut input[end..]).unwrap_or(0);
         more = count != 0;
         end += count;
     }
@@ -83,7 +82,7 @@ fn fill(s: State, input: &mut [u8]) -> State
 }
 
 // Sees to it that the output has room for a line.
-fn make_room(s: State, out: &[u8]) -> State
+fn make_room<W: Write>(s: State, writer: &mut W, out: &[u8]) -> State
     requires { (s.at ≤ length out.now) × (line_room ≤ length out.now) }
     ensures { RoomMade s out.now result }
 {
@@ -91,11 +90,17 @@ fn make_room(s: State, out: &[u8]) -> State
     if LINE <= left {
         return s;
     }
-    flush(s, out)
+    flush(s, writer, out)
 }
 
 // Sees to it that the input shows a record, where it has one, and that the output has room for a line.
-fn ready(s: State, input: &mut [u8], out: &[u8]) -> State
+fn ready<R: Read, W: Write>(
+    s: State,
+    reader: &mut R,
+    writer: &mut W,
+    input: &mut [u8],
+    out: &[u8],
+) -> State
     requires { Places s input.old out.now }
     ensures { Ready s input.old out.now result input.new }
 {
@@ -103,13 +108,13 @@ fn ready(s: State, input: &mut [u8], out: &[u8]) -> State
     let to = s.to;
     let more = s.more;
     if !more {
-        return make_room(s, out);
+        return make_room(s, writer, out);
     }
     if records::window::shows_record(&input[from..to]) {
-        return make_room(s, out);
+        return make_room(s, writer, out);
     }
-    let written = flush(s, out);
-    fill(written, input)
+    let written = flush(s, writer, out);
+    fill(written, reader, input)
 }
 
 // Answers the record that the input shows.
@@ -139,7 +144,15 @@ fn answer(
 }
 
 // Answers the records, one after another, and writes the last line.
-fn run(input: &mut [u8], out: &mut [u8], first: &mut [u8], second: &mut [u8], work: &mut [u8])
+fn run<R: Read, W: Write>(
+    reader: &mut R,
+    writer: &mut W,
+    input: &mut [u8],
+    out: &mut [u8],
+    first: &mut [u8],
+    second: &mut [u8],
+    work: &mut [u8],
+)
     requires { (65536 ≡ length input.old) × (65536 ≡ length out.old) × (4096 ≡ length first.old)
         × (5120 ≡ length second.old) × (65536 ≡ length work.old) }
     ensures { Wiped work.old work.new }
@@ -154,7 +167,7 @@ fn run(input: &mut [u8], out: &mut [u8], first: &mut [u8], second: &mut [u8], wo
     };
     let mut ended = false;
     while !ended {
-        let r = ready(s, input, out);
+        let r = ready(s, reader, writer, input, out);
         if r.ended {
             return;
         }
@@ -162,19 +175,29 @@ fn run(input: &mut [u8], out: &mut [u8], first: &mut [u8], second: &mut [u8], wo
         ended = t.ended;
         s = t;
     }
-    let last = flush(s, out);
+    let last = flush(s, writer, out);
     if last.ended {
         return;
     }
     let end = lines::put_end(last.done, 0, out);
-    io::write_all(STDOUT_FILENO, &out[..end]);
+    let _ = writer.write_all(&out[..end]);
 }
 
-fn main() {
-    let mut input = io::large_buffer();
-    let mut out = io::large_buffer();
-    let mut first = io::buffer();
+fn main(rt: HostRuntime) {
+    let mut reader = rt.stdin();
+    let mut writer = rt.stdout();
+    let mut input = [0u8; 65536];
+    let mut out = [0u8; 65536];
+    let mut first = [0u8; 4096];
     let mut second = second_part();
-    let mut work = io::large_buffer();
-    run(&mut input, &mut out, &mut first, &mut second, &mut work);
+    let mut work = [0u8; 65536];
+    run(
+        &mut reader,
+        &mut writer,
+        &mut input,
+        &mut out,
+        &mut first,
+        &mut second,
+        &mut work,
+    );
 }

@@ -9,7 +9,7 @@ ghost use Rattle.std.specs.Prelude.{◌≡◌, ◌+◌, ◌*◌, ◌<◌, ◌≤
 ghost use Rattle.bits.specs.Bits.{bytes_for};
 ghost use Rattle.ring.specs.Integers.{largest};
 
-use libc::{STDIN_FILENO, STDOUT_FILENO};
+use std::io::{Read, Write};
 
 fn coefficients() -> [u16; 512]
     ensures { 512 ≡ length result }
@@ -30,35 +30,35 @@ fn integers() -> [i32; 512]
 }
 
 // Writes an answer as a line.
-fn write_line(answer: &[u8]) -> bool {
-    let mut line = io::large_buffer();
+fn write_line<W: Write>(writer: &mut W, answer: &[u8]) -> bool {
+    let mut line = [0u8; 65536];
     if 32767 < answer.len() {
         return false;
     }
     let m = 2 * answer.len();
     hex_digits::spell(answer, &mut line[..m]);
     line[m] = 10;
-    io::write_all(STDOUT_FILENO, &line[..m + 1])
+    writer.write_all(&line[..m + 1]).is_ok()
 }
 
-fn write_list(xs: &[u16]) -> bool {
-    let mut answer = io::buffer();
+fn write_list<W: Write>(writer: &mut W, xs: &[u16]) -> bool {
+    let mut answer = [0u8; 4096];
     if 512 < xs.len() {
         return false;
     }
     let m = 2 * xs.len();
     bits::store(xs, &mut answer[..m]);
-    write_line(&answer[..m])
+    write_line(writer, &answer[..m])
 }
 
 // Reads the next list of the case, as long as xs.
-fn read_list(xs: &mut [u16]) -> bool {
-    let mut body = io::buffer();
+fn read_list<R: Read>(reader: &mut R, xs: &mut [u16]) -> bool {
+    let mut body = [0u8; 4096];
     if 512 < xs.len() {
         return false;
     }
     let m = 2 * xs.len();
-    if io::read_full(STDIN_FILENO, &mut body[..m]) != m {
+    if reader.read_exact(&mut body[..m]).is_err() {
         return false;
     }
     bits::load(&body[..m], xs);
@@ -66,63 +66,88 @@ fn read_list(xs: &mut [u16]) -> bool {
 }
 
 // A list, packed.
-fn pack(w: u32, xs: &mut [u16], bytes: &mut [u8]) -> bool
+fn pack<R: Read, W: Write>(
+    reader: &mut R,
+    writer: &mut W,
+    w: u32,
+    xs: &mut [u16],
+    bytes: &mut [u8],
+) -> bool
     requires { (w ≤ 16) × (length bytes.old ≡ bytes_for (w * length xs.old)) }
 {
-    if !read_list(xs) {
+    if !read_list(reader, xs) {
         return false;
     }
     packing::pack(w, xs, bytes);
-    write_line(bytes)
+    write_line(writer, bytes)
 }
 
 // The list that bytes hold.
-fn unpack(w: u32, xs: &mut [u16], bytes: &mut [u8]) -> bool
+fn unpack<R: Read, W: Write>(
+    reader: &mut R,
+    writer: &mut W,
+    w: u32,
+    xs: &mut [u16],
+    bytes: &mut [u8],
+) -> bool
     requires { (w ≤ 16) × (length bytes.old ≡ bytes_for (w * length xs.old)) }
 {
-    let m = bytes.len();
-    if io::read_full(STDIN_FILENO, bytes) != m {
+    if reader.read_exact(bytes).is_err() {
         return false;
     }
     packing::unpack(w, bytes, xs);
-    write_list(xs)
+    write_list(writer, xs)
 }
 
 // The product of a list and one of values that are centred by p, added to a list.
-fn product(w: u32, p: u16, acc: &mut [u16], a: &mut [u16], v: &mut [u16]) -> bool
+fn product<R: Read, W: Write>(
+    reader: &mut R,
+    writer: &mut W,
+    w: u32,
+    p: u16,
+    acc: &mut [u16],
+    a: &mut [u16],
+    v: &mut [u16],
+) -> bool
     requires { (w ≤ 16) × (length a.old ≡ length acc.old) × (length v.old ≡ length acc.old) × (length acc.old ≤ 512) }
 {
     if acc.len() % 4 != 0 {
         return false;
     }
-    if !read_list(acc) {
+    if !read_list(reader, acc) {
         return false;
     }
-    if !read_list(a) {
+    if !read_list(reader, a) {
         return false;
     }
-    if !read_list(v) {
+    if !read_list(reader, v) {
         return false;
     }
     ring::poly::centre(v, p);
     ring::poly::multiply_add(acc, a, v);
     bits::reduce(acc, w);
-    write_list(acc)
+    write_list(writer, acc)
 }
 
 // A number less each value of the sum of two lists.
-fn sum(c: u16, acc: &mut [u16], next: &mut [u16]) -> bool
+fn sum<R: Read, W: Write>(
+    reader: &mut R,
+    writer: &mut W,
+    c: u16,
+    acc: &mut [u16],
+    next: &mut [u16],
+) -> bool
     requires { length next.old ≡ length acc.old }
 {
-    if !read_list(acc) {
+    if !read_list(reader, acc) {
         return false;
     }
-    if !read_list(next) {
+    if !read_list(reader, next) {
         return false;
     }
     ring::poly::add(acc, next);
     ring::poly::subtract_from(c, acc);
-    write_list(acc)
+    write_list(writer, acc)
 }
 
 // Takes each value modulo 2^w and centres it by p: what comes out is at most 1,024 in size, so that
@@ -193,17 +218,19 @@ fn put_answer(xs: &[i32], bound: u16, dst: &mut [u8])
     put_byte(dst, m + 4, within(xs, bound));
 }
 
-fn write_integers(xs: &[i32], bound: u16) -> bool {
-    let mut answer = io::buffer();
+fn write_integers<W: Write>(writer: &mut W, xs: &[i32], bound: u16) -> bool {
+    let mut answer = [0u8; 4096];
     if 512 < xs.len() {
         return false;
     }
     put_answer(xs, bound, &mut answer);
-    write_line(&answer[..4 * xs.len() + 5])
+    write_line(writer, &answer[..4 * xs.len() + 5])
 }
 
 // The product of two lists of values that are centred by p.
-fn signed_product(
+fn signed_product<R: Read, W: Write>(
+    reader: &mut R,
+    writer: &mut W,
     w: u32,
     p: u16,
     bound: u16,
@@ -220,20 +247,27 @@ fn signed_product(
     if 1024 < p {
         return false;
     }
-    if !read_list(values) {
+    if !read_list(reader, values) {
         return false;
     }
     centre(w, p, values, a);
-    if !read_list(values) {
+    if !read_list(reader, values) {
         return false;
     }
     centre(w, p, values, b);
     signed::multiply_add(acc, a, b);
-    write_integers(acc, bound)
+    write_integers(writer, acc, bound)
 }
 
 // Answers a case of kind 4.
-fn run_signed(w: u32, n: usize, p: u16, bound: u16) -> bool
+fn run_signed<R: Read, W: Write>(
+    reader: &mut R,
+    writer: &mut W,
+    w: u32,
+    n: usize,
+    p: u16,
+    bound: u16,
+) -> bool
     requires { n ≤ 512 }
 {
     let mut values = coefficients();
@@ -241,6 +275,8 @@ fn run_signed(w: u32, n: usize, p: u16, bound: u16) -> bool
     let mut a = small_integers();
     let mut b = small_integers();
     signed_product(
+        reader,
+        writer,
         w,
         p,
         bound,
@@ -252,7 +288,9 @@ fn run_signed(w: u32, n: usize, p: u16, bound: u16) -> bool
 }
 
 // Answers a case of another kind, in lists and bytes that the caller lends.
-fn choose(
+fn choose<R: Read, W: Write>(
+    reader: &mut R,
+    writer: &mut W,
     kind: u8,
     w: u32,
     p: u16,
@@ -264,16 +302,16 @@ fn choose(
     requires { (w ≤ 16) × (length ys.old ≡ length xs.old) × (length zs.old ≡ length xs.old) × (length xs.old ≤ 512) × (length bytes.old ≡ bytes_for (w * length xs.old)) }
 {
     if kind == 1 {
-        return pack(w, xs, bytes);
+        return pack(reader, writer, w, xs, bytes);
     }
     if kind == 2 {
-        return unpack(w, xs, bytes);
+        return unpack(reader, writer, w, xs, bytes);
     }
     if kind == 3 {
-        return product(w, p, xs, ys, zs);
+        return product(reader, writer, w, p, xs, ys, zs);
     }
     if kind == 5 {
-        return sum(p, xs, ys);
+        return sum(reader, writer, p, xs, ys);
     }
     false
 }
@@ -286,15 +324,24 @@ fn bytes_for(w: u32, n: usize) -> usize
     (w as usize * n + 7) / 8
 }
 
-fn run(kind: u8, w: u32, n: usize, p: u16) -> bool
+fn run<R: Read, W: Write>(
+    reader: &mut R,
+    writer: &mut W,
+    kind: u8,
+    w: u32,
+    n: usize,
+    p: u16,
+) -> bool
     requires { (w ≤ 16) × (n ≤ 512) }
 {
     let mut xs = coefficients();
     let mut ys = coefficients();
     let mut zs = coefficients();
-    let mut bytes = io::buffer();
+    let mut bytes = [0u8; 4096];
     let m = bytes_for(w, n);
     choose(
+        reader,
+        writer,
         kind,
         w,
         p,
@@ -310,9 +357,9 @@ fn wide(b: u8) -> u32 {
 }
 
 // Reads a case and answers it.
-fn one_case() -> bool {
+fn one_case<R: Read, W: Write>(reader: &mut R, writer: &mut W) -> bool {
     let mut head = [0u8; 8];
-    if io::read_full(STDIN_FILENO, &mut head) != 8 {
+    if reader.read_exact(&mut head).is_err() {
         return false;
     }
     let w = wide(head[1]);
@@ -325,17 +372,19 @@ fn one_case() -> bool {
         return false;
     }
     if head[0] == 4 {
-        return run_signed(w, n, p, hex_digits::pair(head[6], head[7]));
+        return run_signed(reader, writer, w, n, p, hex_digits::pair(head[6], head[7]));
     }
-    run(head[0], w, n, p)
+    run(reader, writer, head[0], w, n, p)
 }
 
 // A proved loop has to end, and nothing says that the input does: it counts down from a number
 // that no run uses up.
-fn main() {
+fn main(rt: HostRuntime) {
+    let mut reader = rt.stdin();
+    let mut writer = rt.stdout();
     let mut turns = u64::MAX;
     while turns > 0 {
-        if !one_case() {
+        if !one_case(&mut reader, &mut writer) {
             return;
         }
         turns -= 1;

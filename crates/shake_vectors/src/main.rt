@@ -7,7 +7,7 @@
 
 ghost use Rattle.std.specs.Prelude.{◌≡◌, ◌+◌, ◌*◌, length};
 
-use libc::{STDIN_FILENO, STDOUT_FILENO};
+use std::io::{Read, Write};
 
 fn run(kind: u8, input: &[u8], place: usize, output: &mut [u8]) -> bool {
     if kind == 1 {
@@ -22,7 +22,14 @@ fn run(kind: u8, input: &[u8], place: usize, output: &mut [u8]) -> bool {
 }
 
 // Runs a case and writes its line, for which line has just the room.
-fn answer(kind: u8, input: &[u8], place: usize, output: &mut [u8], line: &mut [u8]) -> bool
+fn answer<W: Write>(
+    writer: &mut W,
+    kind: u8,
+    input: &[u8],
+    place: usize,
+    output: &mut [u8],
+    line: &mut [u8],
+) -> bool
     requires { 2 * length output.old + 1 ≡ length line.old }
 {
     let ok = run(kind, input, place, output);
@@ -32,7 +39,7 @@ fn answer(kind: u8, input: &[u8], place: usize, output: &mut [u8], line: &mut [u
     let m = 2 * output.len();
     hex_digits::spell(output, &mut line[..m]);
     line[m] = 10;
-    io::write_all(STDOUT_FILENO, line)
+    writer.write_all(line).is_ok()
 }
 
 // The number of four bytes, low byte first.
@@ -43,9 +50,15 @@ fn number(a: u8, b: u8, c: u8, d: u8) -> usize {
 }
 
 // Reads a case and answers it, in buffers that the caller lends.
-fn one_case(input: &mut [u8], output: &mut [u8], line: &mut [u8]) -> bool {
+fn one_case<R: Read, W: Write>(
+    reader: &mut R,
+    writer: &mut W,
+    input: &mut [u8],
+    output: &mut [u8],
+    line: &mut [u8],
+) -> bool {
     let mut head = [0u8; 9];
-    if io::read_full(STDIN_FILENO, &mut head) != 9 {
+    if reader.read_exact(&mut head).is_err() {
         return false;
     }
     let n = hex_digits::pair(head[1], head[2]) as usize;
@@ -61,10 +74,11 @@ fn one_case(input: &mut [u8], output: &mut [u8], line: &mut [u8]) -> bool {
     if line.len() < end {
         return false;
     }
-    if io::read_full(STDIN_FILENO, &mut input[..n]) != n {
+    if reader.read_exact(&mut input[..n]).is_err() {
         return false;
     }
     answer(
+        writer,
         head[0],
         &input[..n],
         place,
@@ -75,13 +89,15 @@ fn one_case(input: &mut [u8], output: &mut [u8], line: &mut [u8]) -> bool {
 
 // A proved loop has to end, and nothing says that the input does: it counts down from a number
 // that no run uses up.
-fn main() {
-    let mut input = io::large_buffer();
-    let mut output = io::large_buffer();
-    let mut line = io::large_buffer();
+fn main(rt: HostRuntime) {
+    let mut reader = rt.stdin();
+    let mut writer = rt.stdout();
+    let mut input = [0u8; 65536];
+    let mut output = [0u8; 65536];
+    let mut line = [0u8; 65536];
     let mut turns = u64::MAX;
     while turns > 0 {
-        if !one_case(&mut input, &mut output, &mut line) {
+        if !one_case(&mut reader, &mut writer, &mut input, &mut output, &mut line) {
             return;
         }
         turns -= 1;
