@@ -2,13 +2,13 @@
 -- Assumes nothing.
 use mathlib.Core.Path.{refl, ap₂, ◌∙◌}
 use mathlib.Core.List.{List}
-use Prim.Native.Nat.{ℕ, ◌+◌, ◌-◌, ◌≤◌}
+use Prim.Native.Nat.{ℕ, ◌+◌, ◌≤◌}
 use native.Mathlib.Omega.{arith}
 use lib.ListN.{length}
 use Rattle.keccak.specs.Lists.{tabulate}
 use Rattle.kindi.specs.Answers.{same, some, part_at, coins_at, equal_coins}
 use Rattle.vectors.proofs.Amounts.{part_length}
-use Rattle.recipients.proofs.Places.{Gathering, gathering_begun, gathering_more, gathering_all, place_fits, place_part}
+use Rattle.recipients.proofs.Places.{gathering_begun, gathering_more, gathering_all, place_fits, place_part}
 use Rattle.recipients.proofs.coins.equal_coins.Goals as goal
 
 pub loop-j-init : goal.loop-j-init
@@ -16,27 +16,19 @@ loop-j-init c = gathering_begun
 
 pub overflow_add-at : goal.overflow_add-at
 overflow_add-at c =
-    let there : c.loop-j.at + c.args.p.coins ≤ length c.args.list.now =
-    place_fits c.loop-j.j refl c.loop-j.invariant.place c.args.list.now (omega (arith, c.requires)) c.loop-j-test.true in
-    omega (arith, there)
+    omega (arith, place_fits c.loop-j.j refl c.loop-j.invariant.place c.args.list.now (omega (arith, c.requires)) c.loop-j-test.true)
 
 pub slice_bounds-is_among-count : goal.slice_bounds-is_among-count
 slice_bounds-is_among-count c =
-    let there : c.loop-j.at + c.args.p.coins ≤ length c.args.list.now =
-    place_fits c.loop-j.j refl c.loop-j.invariant.place c.args.list.now (omega (arith, c.requires)) c.loop-j-test.true in
-    omega (arith, there)
+    omega (arith, place_fits c.loop-j.j refl c.loop-j.invariant.place c.args.list.now (omega (arith, c.requires)) c.loop-j-test.true)
 
 pub slice_bounds-is_among-start : goal.slice_bounds-is_among-start
 slice_bounds-is_among-start c =
-    let there : c.loop-j.at + c.args.p.coins ≤ length c.args.list.now =
-    place_fits c.loop-j.j refl c.loop-j.invariant.place c.args.list.now (omega (arith, c.requires)) c.loop-j-test.true in
-    omega (arith, there)
+    omega (arith, place_fits c.loop-j.j refl c.loop-j.invariant.place c.args.list.now (omega (arith, c.requires)) c.loop-j-test.true)
 
 pub slice_bounds-is_among-end : goal.slice_bounds-is_among-end
 slice_bounds-is_among-end c =
-    let there : c.loop-j.at + c.args.p.coins ≤ length c.args.list.now =
-    place_fits c.loop-j.j refl c.loop-j.invariant.place c.args.list.now (omega (arith, c.requires)) c.loop-j-test.true in
-    omega (arith, there)
+    omega (arith, place_fits c.loop-j.j refl c.loop-j.invariant.place c.args.list.now (omega (arith, c.requires)) c.loop-j-test.true)
 
 pub is_among-found-requires : goal.is_among-found-requires
 is_among-found-requires c =
@@ -46,9 +38,7 @@ is_among-found-requires c =
 
 pub overflow_add-at-in-loop-j : goal.overflow_add-at-in-loop-j
 overflow_add-at-in-loop-j c =
-    let there : c.loop-j.at + c.args.p.coins ≤ length c.args.list.now =
-    place_fits c.loop-j.j refl c.loop-j.invariant.place c.args.list.now (omega (arith, c.requires)) c.loop-j-test.true in
-    omega (arith, there)
+    omega (arith, place_fits c.loop-j.j refl c.loop-j.invariant.place c.args.list.now (omega (arith, c.requires)) c.loop-j-test.true)
 
 pub loop-j-preserved : goal.loop-j-preserved
 loop-j-preserved c =
@@ -60,7 +50,7 @@ loop-j-preserved c =
     gathering_more h.invariant (omega arith) refl
     (c.is_among-found.ensures
     ∙ ap₂ (λ (n : ℕ) (one : List ℕ). some (tabulate h.j (λ i. same (part_at n list i) one)))
-    (part_length h.at coins list (there)) (place_part h.j refl h.invariant.place list))
+    (part_length h.at coins list there) (place_part h.j refl h.invariant.place list))
 
 pub returns : goal.returns
 unfolding equal_coins coins_at

@@ -1,12 +1,10 @@
 -- `recipients::coins::is_among` meets its contract: after i turns it is known of the first i coins whether one of them is this one.
 -- Assumes nothing.
 use mathlib.Core.Path.{refl, ap, ◌∙◌}
-use Prim.Native.Nat.{◌+◌, ◌-◌, ◌≤◌}
 use native.Mathlib.Omega.{arith}
-use lib.ListN.{length}
-use Rattle.kindi.specs.Answers.{same, part_at}
+use Rattle.kindi.specs.Answers.{same}
 use Rattle.vectors.proofs.Amounts.{part_length}
-use Rattle.recipients.proofs.Places.{Gathering, gathering_begun, gathering_more, gathering_all, place_fits, place_part}
+use Rattle.recipients.proofs.Places.{gathering_begun, gathering_more, gathering_all, place_fits, place_part}
 use Rattle.recipients.proofs.coins.is_among.Goals as goal
 
 pub loop-i-init : goal.loop-i-init
@@ -14,39 +12,27 @@ loop-i-init c = gathering_begun
 
 pub overflow_add-at : goal.overflow_add-at
 overflow_add-at c =
-    let there : c.loop-i.at + length c.args.one.now ≤ length c.args.list.now =
-    place_fits c.loop-i.i refl c.loop-i.invariant.place c.args.list.now c.requires c.loop-i-test.true in
-    omega (arith, there)
+    omega (arith, place_fits c.loop-i.i refl c.loop-i.invariant.place c.args.list.now c.requires c.loop-i-test.true)
 
 pub slice_bounds-same_bytes-count : goal.slice_bounds-same_bytes-count
 slice_bounds-same_bytes-count c =
-    let there : c.loop-i.at + length c.args.one.now ≤ length c.args.list.now =
-    place_fits c.loop-i.i refl c.loop-i.invariant.place c.args.list.now c.requires c.loop-i-test.true in
-    omega (arith, there)
+    omega (arith, place_fits c.loop-i.i refl c.loop-i.invariant.place c.args.list.now c.requires c.loop-i-test.true)
 
 pub slice_bounds-same_bytes-start : goal.slice_bounds-same_bytes-start
 slice_bounds-same_bytes-start c =
-    let there : c.loop-i.at + length c.args.one.now ≤ length c.args.list.now =
-    place_fits c.loop-i.i refl c.loop-i.invariant.place c.args.list.now c.requires c.loop-i-test.true in
-    omega (arith, there)
+    omega (arith, place_fits c.loop-i.i refl c.loop-i.invariant.place c.args.list.now c.requires c.loop-i-test.true)
 
 pub slice_bounds-same_bytes-end : goal.slice_bounds-same_bytes-end
 slice_bounds-same_bytes-end c =
-    let there : c.loop-i.at + length c.args.one.now ≤ length c.args.list.now =
-    place_fits c.loop-i.i refl c.loop-i.invariant.place c.args.list.now c.requires c.loop-i-test.true in
-    omega (arith, there)
+    omega (arith, place_fits c.loop-i.i refl c.loop-i.invariant.place c.args.list.now c.requires c.loop-i-test.true)
 
 pub same_bytes-found-requires : goal.same_bytes-found-requires
 same_bytes-found-requires c =
-    let there : c.loop-i.at + length c.args.one.now ≤ length c.args.list.now =
-    place_fits c.loop-i.i refl c.loop-i.invariant.place c.args.list.now c.requires c.loop-i-test.true in
-    part_length c.loop-i.at _ c.args.list.now (there)
+    part_length c.loop-i.at _ c.args.list.now (place_fits c.loop-i.i refl c.loop-i.invariant.place c.args.list.now c.requires c.loop-i-test.true)
 
 pub overflow_add-at-in-loop-i : goal.overflow_add-at-in-loop-i
 overflow_add-at-in-loop-i c =
-    let there : c.loop-i.at + length c.args.one.now ≤ length c.args.list.now =
-    place_fits c.loop-i.i refl c.loop-i.invariant.place c.args.list.now c.requires c.loop-i-test.true in
-    omega (arith, there)
+    omega (arith, place_fits c.loop-i.i refl c.loop-i.invariant.place c.args.list.now c.requires c.loop-i-test.true)
 
 pub loop-i-preserved : goal.loop-i-preserved
 loop-i-preserved c =

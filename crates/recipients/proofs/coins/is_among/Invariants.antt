@@ -1,12 +1,9 @@
 -- `recipients::coins::is_among` meets its contract: after i turns it is known of the first i coins whether one of them is this one.
 -- Assumes nothing.
-use mathlib.Core.Path.{refl, ap, ◌∙◌}
-use Prim.Native.Nat.{◌+◌, ◌-◌, ◌≤◌}
-use native.Mathlib.Omega.{arith}
+use Prim.Native.Nat.{◌-◌}
 use lib.ListN.{length}
 use Rattle.kindi.specs.Answers.{same, part_at}
-use Rattle.vectors.proofs.Amounts.{part_length}
-use Rattle.recipients.proofs.Places.{Gathering, gathering_begun, gathering_more, gathering_all, place_fits, place_part}
+use Rattle.recipients.proofs.Places.{Gathering}
 use Rattle.recipients.proofs.coins.is_among.Given as goal
 
 abbrev pub invariant-loop-i : goal.invariant-loop-i

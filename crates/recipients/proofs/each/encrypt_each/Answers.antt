@@ -1,6 +1,5 @@
 -- `recipients::each::encrypt_each` meets its contract: the status, the comparison of the coins and the ciphertexts are those of the
 -- answer (`Checks`). Assumes nothing.
-use borrow.Author.Rules.{rules}
 use Rattle.recipients.proofs.Checks.{each_refused, each_coins_long, each_fits, each_equal, each_exit}
 use Rattle.recipients.proofs.each.encrypt_each.Goals as goal
 

@@ -1,10 +1,7 @@
 -- `recipients::each::encrypt_parts` meets its contract: after i turns the ciphertexts of the first i recipients are there.
 -- Assumes nothing.
-use Prim.Native.Nat.{◌+◌, ◌-◌, ◌≤◌}
 use native.Mathlib.Omega.{arith}
-use borrow.Author.Rules.{rules}
-use lib.ListN.{length}
-use Rattle.recipients.proofs.Places.{Sealing, sealing_begun, key_there, coins_there, part_there, sealing_room, sealing_more, sealing_all}
+use Rattle.recipients.proofs.Places.{sealing_begun, key_there, coins_there, part_there, sealing_room, sealing_more, sealing_all}
 use Rattle.recipients.proofs.each.encrypt_parts.Goals as goal
 
 pub loop-i-init : goal.loop-i-init
@@ -12,75 +9,51 @@ loop-i-init c = sealing_begun c.requires
 
 pub overflow_add-key_at : goal.overflow_add-key_at
 overflow_add-key_at c =
-    let key_fits : c.loop-i.key_at + c.public_key-key.result ≤ length c.args.keys.now =
-    key_there c.loop-i.invariant c.loop-i-test.true c.public_key-key.ensures.0 c.ciphertext-part.ensures.0 in
-    omega (arith, key_fits)
+    omega (arith, key_there c.loop-i.invariant c.loop-i-test.true c.public_key-key.ensures.0 c.ciphertext-part.ensures.0)
 
 pub slice_bounds-encrypt-count : goal.slice_bounds-encrypt-count
 slice_bounds-encrypt-count c =
-    let key_fits : c.loop-i.key_at + c.public_key-key.result ≤ length c.args.keys.now =
-    key_there c.loop-i.invariant c.loop-i-test.true c.public_key-key.ensures.0 c.ciphertext-part.ensures.0 in
-    omega (arith, key_fits)
+    omega (arith, key_there c.loop-i.invariant c.loop-i-test.true c.public_key-key.ensures.0 c.ciphertext-part.ensures.0)
 
 pub slice_bounds-encrypt-start : goal.slice_bounds-encrypt-start
 slice_bounds-encrypt-start c =
-    let key_fits : c.loop-i.key_at + c.public_key-key.result ≤ length c.args.keys.now =
-    key_there c.loop-i.invariant c.loop-i-test.true c.public_key-key.ensures.0 c.ciphertext-part.ensures.0 in
-    omega (arith, key_fits)
+    omega (arith, key_there c.loop-i.invariant c.loop-i-test.true c.public_key-key.ensures.0 c.ciphertext-part.ensures.0)
 
 pub slice_bounds-encrypt-end : goal.slice_bounds-encrypt-end
 slice_bounds-encrypt-end c =
-    let key_fits : c.loop-i.key_at + c.public_key-key.result ≤ length c.args.keys.now =
-    key_there c.loop-i.invariant c.loop-i-test.true c.public_key-key.ensures.0 c.ciphertext-part.ensures.0 in
-    omega (arith, key_fits)
+    omega (arith, key_there c.loop-i.invariant c.loop-i-test.true c.public_key-key.ensures.0 c.ciphertext-part.ensures.0)
 
 pub overflow_add-coins_at : goal.overflow_add-coins_at
 overflow_add-coins_at c =
-    let coins_fit : c.loop-i.coins_at + c.args.p.coins ≤ length c.args.list.now =
-    coins_there c.loop-i.invariant c.loop-i-test.true c.public_key-key.ensures.0 c.ciphertext-part.ensures.0 in
-    omega (arith, coins_fit)
+    omega (arith, coins_there c.loop-i.invariant c.loop-i-test.true c.public_key-key.ensures.0 c.ciphertext-part.ensures.0)
 
 pub slice_bounds-encrypt-count-in-loop-i : goal.slice_bounds-encrypt-count-in-loop-i
 slice_bounds-encrypt-count-in-loop-i c =
-    let coins_fit : c.loop-i.coins_at + c.args.p.coins ≤ length c.args.list.now =
-    coins_there c.loop-i.invariant c.loop-i-test.true c.public_key-key.ensures.0 c.ciphertext-part.ensures.0 in
-    omega (arith, coins_fit)
+    omega (arith, coins_there c.loop-i.invariant c.loop-i-test.true c.public_key-key.ensures.0 c.ciphertext-part.ensures.0)
 
 pub slice_bounds-encrypt-start-in-loop-i : goal.slice_bounds-encrypt-start-in-loop-i
 slice_bounds-encrypt-start-in-loop-i c =
-    let coins_fit : c.loop-i.coins_at + c.args.p.coins ≤ length c.args.list.now =
-    coins_there c.loop-i.invariant c.loop-i-test.true c.public_key-key.ensures.0 c.ciphertext-part.ensures.0 in
-    omega (arith, coins_fit)
+    omega (arith, coins_there c.loop-i.invariant c.loop-i-test.true c.public_key-key.ensures.0 c.ciphertext-part.ensures.0)
 
 pub slice_bounds-encrypt-end-in-loop-i : goal.slice_bounds-encrypt-end-in-loop-i
 slice_bounds-encrypt-end-in-loop-i c =
-    let coins_fit : c.loop-i.coins_at + c.args.p.coins ≤ length c.args.list.now =
-    coins_there c.loop-i.invariant c.loop-i-test.true c.public_key-key.ensures.0 c.ciphertext-part.ensures.0 in
-    omega (arith, coins_fit)
+    omega (arith, coins_there c.loop-i.invariant c.loop-i-test.true c.public_key-key.ensures.0 c.ciphertext-part.ensures.0)
 
 pub overflow_add-at : goal.overflow_add-at
 overflow_add-at c =
-    let part-fits : c.loop-i.at + c.ciphertext-part.result ≤ length c.loop-i.dst =
-    part_there c.loop-i.invariant c.loop-i-test.true c.public_key-key.ensures.0 c.ciphertext-part.ensures.0 in
-    omega (arith, part-fits)
+    omega (arith, part_there c.loop-i.invariant c.loop-i-test.true c.public_key-key.ensures.0 c.ciphertext-part.ensures.0)
 
 pub slice_bounds-encrypt-count-in-loop-i-2 : goal.slice_bounds-encrypt-count-in-loop-i-2
 slice_bounds-encrypt-count-in-loop-i-2 c =
-    let part-fits : c.loop-i.at + c.ciphertext-part.result ≤ length c.loop-i.dst =
-    part_there c.loop-i.invariant c.loop-i-test.true c.public_key-key.ensures.0 c.ciphertext-part.ensures.0 in
-    omega (arith, part-fits)
+    omega (arith, part_there c.loop-i.invariant c.loop-i-test.true c.public_key-key.ensures.0 c.ciphertext-part.ensures.0)
 
 pub slice_bounds-encrypt-start-in-loop-i-2 : goal.slice_bounds-encrypt-start-in-loop-i-2
 slice_bounds-encrypt-start-in-loop-i-2 c =
-    let part-fits : c.loop-i.at + c.ciphertext-part.result ≤ length c.loop-i.dst =
-    part_there c.loop-i.invariant c.loop-i-test.true c.public_key-key.ensures.0 c.ciphertext-part.ensures.0 in
-    omega (arith, part-fits)
+    omega (arith, part_there c.loop-i.invariant c.loop-i-test.true c.public_key-key.ensures.0 c.ciphertext-part.ensures.0)
 
 pub slice_bounds-encrypt-end-in-loop-i-2 : goal.slice_bounds-encrypt-end-in-loop-i-2
 slice_bounds-encrypt-end-in-loop-i-2 c =
-    let part-fits : c.loop-i.at + c.ciphertext-part.result ≤ length c.loop-i.dst =
-    part_there c.loop-i.invariant c.loop-i-test.true c.public_key-key.ensures.0 c.ciphertext-part.ensures.0 in
-    omega (arith, part-fits)
+    omega (arith, part_there c.loop-i.invariant c.loop-i-test.true c.public_key-key.ensures.0 c.ciphertext-part.ensures.0)
 
 pub encrypt-requires : goal.encrypt-requires
 encrypt-requires c =
@@ -88,21 +61,15 @@ encrypt-requires c =
 
 pub overflow_add-key_at-in-loop-i : goal.overflow_add-key_at-in-loop-i
 overflow_add-key_at-in-loop-i c =
-    let key_fits : c.loop-i.key_at + c.public_key-key.result ≤ length c.args.keys.now =
-    key_there c.loop-i.invariant c.loop-i-test.true c.public_key-key.ensures.0 c.ciphertext-part.ensures.0 in
-    omega (arith, key_fits)
+    omega (arith, key_there c.loop-i.invariant c.loop-i-test.true c.public_key-key.ensures.0 c.ciphertext-part.ensures.0)
 
 pub overflow_add-coins_at-in-loop-i : goal.overflow_add-coins_at-in-loop-i
 overflow_add-coins_at-in-loop-i c =
-    let coins_fit : c.loop-i.coins_at + c.args.p.coins ≤ length c.args.list.now =
-    coins_there c.loop-i.invariant c.loop-i-test.true c.public_key-key.ensures.0 c.ciphertext-part.ensures.0 in
-    omega (arith, coins_fit)
+    omega (arith, coins_there c.loop-i.invariant c.loop-i-test.true c.public_key-key.ensures.0 c.ciphertext-part.ensures.0)
 
 pub overflow_add-at-in-loop-i : goal.overflow_add-at-in-loop-i
 overflow_add-at-in-loop-i c =
-    let part-fits : c.loop-i.at + c.ciphertext-part.result ≤ length c.loop-i.dst =
-    part_there c.loop-i.invariant c.loop-i-test.true c.public_key-key.ensures.0 c.ciphertext-part.ensures.0 in
-    omega (arith, part-fits)
+    omega (arith, part_there c.loop-i.invariant c.loop-i-test.true c.public_key-key.ensures.0 c.ciphertext-part.ensures.0)
 
 pub overflow_add-i : goal.overflow_add-i
 overflow_add-i c = omega (arith, c.loop-i-test.true)

@@ -1,10 +1,7 @@
 -- `recipients::each::encrypt_parts` meets its contract: after i turns the ciphertexts of the first i recipients are there.
 -- Assumes nothing.
-use Prim.Native.Nat.{◌+◌, ◌-◌, ◌≤◌}
-use native.Mathlib.Omega.{arith}
-use borrow.Author.Rules.{rules}
-use lib.ListN.{length}
-use Rattle.recipients.proofs.Places.{Sealing, sealing_begun, key_there, coins_there, part_there, sealing_room, sealing_more, sealing_all}
+use Prim.Native.Nat.{◌-◌}
+use Rattle.recipients.proofs.Places.{Sealing}
 use Rattle.recipients.proofs.each.encrypt_parts.Given as goal
 
 abbrev pub invariant-loop-i : goal.invariant-loop-i

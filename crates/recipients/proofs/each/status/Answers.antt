@@ -1,6 +1,5 @@
 -- `recipients::each::status` meets its contract: each check is made as `encrypt_each_status` has it.
 -- Assumes nothing.
-use borrow.Author.Rules.{rules}
 use Rattle.recipients.specs.Status.{encrypt_each_status}
 use Rattle.recipients.proofs.each.status.Goals as goal
 
