@@ -7,6 +7,7 @@ use kindi::Params;
 use vectors::strings::same_bytes;
 
 // Whether one of the first `count` coins of a list is this one.
+#[tactic(auto, using(crate::proofs::Places::place_fits))]
 fn is_among(list: &[u8], count: usize, one: &[u8]) -> bool
     requires { count * length one.now ≤ length list.now }
     ensures { result ≡ some (tabulate count (λ i. same (part_at (length one.now) list.now i) one.now)) }
@@ -24,6 +25,7 @@ fn is_among(list: &[u8], count: usize, one: &[u8]) -> bool
 }
 
 // Whether two of the coins of a list are equal: each is held against all before it.
+#[tactic(auto, using(crate::proofs::Places::place_fits))]
 pub fn equal_coins(p: Params, count: usize, list: &[u8]) -> bool
     requires { length list.now ≡ count * p.coins }
     ensures { result ≡ equal_coins p count list.now }

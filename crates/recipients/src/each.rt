@@ -50,6 +50,7 @@ fn status(
 }
 
 // The ciphertexts, recipient by recipient.
+#[tactic(auto, using(crate::proofs::Places::key_there, crate::proofs::Places::coins_there, crate::proofs::Places::part_there))]
 fn encrypt_parts(
     p: Params,
     count: usize,

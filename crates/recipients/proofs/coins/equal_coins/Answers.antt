@@ -14,31 +14,11 @@ use Rattle.recipients.proofs.coins.equal_coins.Goals as goal
 pub loop-j-init : goal.loop-j-init
 loop-j-init c = gathering_begun
 
-pub overflow_add-at : goal.overflow_add-at
-overflow_add-at c =
-    omega (arith, place_fits c.loop-j.j refl c.loop-j.invariant.place c.args.list.now (omega (arith, c.requires)) c.loop-j-test.true)
-
-pub slice_bounds-is_among-count : goal.slice_bounds-is_among-count
-slice_bounds-is_among-count c =
-    omega (arith, place_fits c.loop-j.j refl c.loop-j.invariant.place c.args.list.now (omega (arith, c.requires)) c.loop-j-test.true)
-
-pub slice_bounds-is_among-start : goal.slice_bounds-is_among-start
-slice_bounds-is_among-start c =
-    omega (arith, place_fits c.loop-j.j refl c.loop-j.invariant.place c.args.list.now (omega (arith, c.requires)) c.loop-j-test.true)
-
-pub slice_bounds-is_among-end : goal.slice_bounds-is_among-end
-slice_bounds-is_among-end c =
-    omega (arith, place_fits c.loop-j.j refl c.loop-j.invariant.place c.args.list.now (omega (arith, c.requires)) c.loop-j-test.true)
-
 pub is_among-found-requires : goal.is_among-found-requires
 is_among-found-requires c =
     let there : c.loop-j.at + c.args.p.coins ≤ length c.args.list.now =
     place_fits c.loop-j.j refl c.loop-j.invariant.place c.args.list.now (omega (arith, c.requires)) c.loop-j-test.true in
     rw (part_length c.loop-j.at c.args.p.coins c.args.list.now there) (omega (arith, there, c.loop-j.invariant.place))
-
-pub overflow_add-at-in-loop-j : goal.overflow_add-at-in-loop-j
-overflow_add-at-in-loop-j c =
-    omega (arith, place_fits c.loop-j.j refl c.loop-j.invariant.place c.args.list.now (omega (arith, c.requires)) c.loop-j-test.true)
 
 pub loop-j-preserved : goal.loop-j-preserved
 loop-j-preserved c =

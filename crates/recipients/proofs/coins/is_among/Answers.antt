@@ -10,29 +10,9 @@ use Rattle.recipients.proofs.coins.is_among.Goals as goal
 pub loop-i-init : goal.loop-i-init
 loop-i-init c = gathering_begun
 
-pub overflow_add-at : goal.overflow_add-at
-overflow_add-at c =
-    omega (arith, place_fits c.loop-i.i refl c.loop-i.invariant.place c.args.list.now c.requires c.loop-i-test.true)
-
-pub slice_bounds-same_bytes-count : goal.slice_bounds-same_bytes-count
-slice_bounds-same_bytes-count c =
-    omega (arith, place_fits c.loop-i.i refl c.loop-i.invariant.place c.args.list.now c.requires c.loop-i-test.true)
-
-pub slice_bounds-same_bytes-start : goal.slice_bounds-same_bytes-start
-slice_bounds-same_bytes-start c =
-    omega (arith, place_fits c.loop-i.i refl c.loop-i.invariant.place c.args.list.now c.requires c.loop-i-test.true)
-
-pub slice_bounds-same_bytes-end : goal.slice_bounds-same_bytes-end
-slice_bounds-same_bytes-end c =
-    omega (arith, place_fits c.loop-i.i refl c.loop-i.invariant.place c.args.list.now c.requires c.loop-i-test.true)
-
 pub same_bytes-found-requires : goal.same_bytes-found-requires
 same_bytes-found-requires c =
     part_length c.loop-i.at _ c.args.list.now (place_fits c.loop-i.i refl c.loop-i.invariant.place c.args.list.now c.requires c.loop-i-test.true)
-
-pub overflow_add-at-in-loop-i : goal.overflow_add-at-in-loop-i
-overflow_add-at-in-loop-i c =
-    omega (arith, place_fits c.loop-i.i refl c.loop-i.invariant.place c.args.list.now c.requires c.loop-i-test.true)
 
 pub loop-i-preserved : goal.loop-i-preserved
 loop-i-preserved c =
