@@ -18,6 +18,11 @@ pub record Marked (rest : List ℕ) (body : ℕ) : Type 0 where
   pub mark : not (is_marked rest) ≡ false
   pub is_body : body ≡ body_length rest
 
+-- Both checks have passed.
+pub passed : {rest : List ℕ} {mark : Bool} {body : ℕ} → 6 ≤ length rest → mark ≡ is_marked rest → mark ≡ true → body ≡ body_length rest
+    → Marked rest body
+passed enough is on is_body = record { enough = enough; mark = ap not (sym is ∙ on); is_body = is_body }
+
 module _ (rest : List ℕ) where
   -- Nothing is left.
   pub read_end : length rest ≡ 0 → End ≡ read_header rest

@@ -1,13 +1,10 @@
 -- What each case of a step leaves. Assumes nothing.
 use mathlib.Core.Path.{◌≡◌, refl, sym, ap, ◌∙◌}
 use mathlib.Core.Bool.{Bool, true, false, cond, not, ◌&&◌}
-use mathlib.Core.List.{List, [], ◌∷◌, ◌++◌, append-nil}
-use mathlib.Core.Logic.{⊎_elim}
+use mathlib.Core.List.{List, [], ◌++◌, append-nil}
 use Prim.Native.Nat.{ℕ, ◌+◌, ◌-◌}
 use native.Mathlib.Numerals.{add-one}
 use native.Mathlib.Omega.{arith}
-use types.Run.{OneOf}
-use denote.Enum.Declared.{tag_of}
 use lib.Dec.{leb}
 use lib.ListN.{length, take, drop, replicate, length-replicate}
 use Rattle.kindi.specs.Params.{is_set, of_set}
@@ -25,7 +22,6 @@ use Rattle.records.specs.declared.step.Stepped.{Stepped}
 use Rattle.records.specs.Header.{is_whole, header_number, read_header}
 use Rattle.records.specs.Record.{finished, stopped, answers, step_by, step, step_line, done_after, consumed, reading_ends}
 use Rattle.records.specs.Steps.{LineExit, buffer_by, step_first, step_second, step_work, StepExit}
-use Rattle.records.specs.contracts.header.Header.{the_type}
 
 module _ {done : ℕ} {out : List ℕ} {at : ℕ} {r : Stepped} where
   -- The end of the input: nothing is written.
@@ -80,18 +76,14 @@ uncalled after rest entry Cut e = refl
 uncalled after rest entry (Unknown kind body) e = refl
 
 -- The arm of a header that is not whole.
-pub not_whole : (header : Header) → OneOf (1 ∷ 2 ∷ 3 ∷ 4 ∷ 5 ∷ []) (tag_of the_type header) → is_whole header ≡ false
+pub not_whole : (header : Header) → ((kind set body : ℕ) → header ≡ Whole kind set body → ⊥) → is_whole header ≡ false
 unfolding is_whole
-not_whole (Whole kind set body) h =
-    ⊎_elim (λ e. absurd (omega arith))
-    (λ h2.
-    ⊎_elim (λ e. absurd (omega arith))
-    (λ h3. ⊎_elim (λ e. absurd (omega arith)) (λ h4. ⊎_elim (λ e. absurd (omega arith)) (λ e. absurd (omega arith)) h4) h3) h2) h
-not_whole End h = refl
-not_whole Short h = refl
-not_whole Unmarked h = refl
-not_whole Cut h = refl
-not_whole (Unknown kind body) h = refl
+not_whole (Whole kind set body) not = absurd (not kind set body refl)
+not_whole End not = refl
+not_whole Short not = refl
+not_whole Unmarked not = refl
+not_whole Cut not = refl
+not_whole (Unknown kind body) not = refl
 
 -- ---- the work area
 

@@ -1,7 +1,6 @@
 -- `linkcheck::answer` meets its contract.
 -- Assumes nothing.
 use native.Mathlib.Omega.{arith}
-use borrow.Author.Rules.{rules}
 use Rattle.linkcheck.specs.Turns.{window_of}
 use Rattle.linkcheck.proofs.Laws.{reads_within, answered}
 use Rattle.linkcheck.proofs.answer.Goals as goal

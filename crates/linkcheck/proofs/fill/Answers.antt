@@ -1,13 +1,10 @@
 -- `linkcheck::fill` meets its contract: what is left to read falls with every read, and what was left stays at the front.
 -- Assumes nothing.
-use mathlib.Core.Bool.{cond}
 use mathlib.Core.Path.{sym, ◌∙◌}
-use Prim.Native.Nat.{◌+◌, ◌-◌}
 use native.Mathlib.Omega.{arith}
 use borrow.Author.Rules.{rules}
 use lib.Seq.{length-take-le}
-use lib.ListN.{length}
-use Rattle.linkcheck.proofs.Laws.{Reading, reading_begun, count_within, reading_more, read_falls, filled}
+use Rattle.linkcheck.proofs.Laws.{reading_begun, count_within, reading_more, read_falls, filled}
 use Rattle.linkcheck.proofs.fill.Goals as goal
 
 pub loop-more-init : goal.loop-more-init

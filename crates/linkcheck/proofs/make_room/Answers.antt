@@ -1,7 +1,6 @@
 -- `linkcheck::make_room` meets its contract.
 -- Assumes nothing.
 use native.Mathlib.Omega.{arith}
-use borrow.Author.Rules.{rules}
 use Rattle.linkcheck.proofs.Laws.{room_there, room_made}
 use Rattle.linkcheck.proofs.make_room.Goals as goal
 

@@ -1,7 +1,6 @@
 -- `linkcheck::ready` meets its contract.
 -- Assumes nothing.
 use mathlib.Core.Path.{sym, ◌∙◌}
-use borrow.Author.Tests.{not-true, not-false}
 use borrow.Author.Rules.{rules}
 use Rattle.linkcheck.specs.Turns.{window_of}
 use Rattle.linkcheck.proofs.Laws.{flush_unmoved, ready_ended, ready_shown, ready_waited}

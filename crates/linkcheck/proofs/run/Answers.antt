@@ -2,11 +2,10 @@
 -- Assumes nothing.
 use mathlib.Core.Bool.{not}
 use mathlib.Core.Path.{sym, ap}
-use Prim.Native.Nat.{◌-◌}
 use native.Mathlib.Omega.{arith}
 use borrow.Author.Rules.{rules}
 use lib.Seq.{length-take-le}
-use Rattle.linkcheck.proofs.Laws.{Running, wiped_none, turn_falls, running_more, written_within}
+use Rattle.linkcheck.proofs.Laws.{wiped_none, turn_falls, running_more, written_within}
 use Rattle.linkcheck.proofs.run.Goals as goal
 
 pub loop-ended-init : goal.loop-ended-init

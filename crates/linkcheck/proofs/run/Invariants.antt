@@ -1,12 +1,8 @@
 -- `linkcheck::run` meets its contract: the places stay within their buffers, and the records that are left to answer fall.
 -- Assumes nothing.
 use mathlib.Core.Bool.{cond}
-use mathlib.Core.Path.{sym}
 use Prim.Native.Nat.{◌-◌}
-use native.Mathlib.Omega.{arith}
-use borrow.Author.Rules.{rules}
-use lib.Seq.{length-take-le}
-use Rattle.linkcheck.proofs.Laws.{Running, wiped_none, turn_falls, running_more, written_within}
+use Rattle.linkcheck.proofs.Laws.{Running}
 use Rattle.linkcheck.proofs.run.Given as goal
 
 abbrev pub invariant-loop-ended : goal.invariant-loop-ended

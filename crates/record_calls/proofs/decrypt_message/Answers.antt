@@ -1,0 +1,32 @@
+-- `record_calls::decrypt_message` meets its contract: the body is cut up at its lengths, and the record gives what the call leaves.
+-- Assumes nothing.
+use mathlib.Core.Path.{sym}
+use Prim.Native.Nat.{◌+◌}
+use native.Mathlib.Omega.{arith}
+use lib.Seq.{length-take-le}
+use Rattle.kindi.specs.Answers.{differs}
+use Rattle.record_calls.proofs.ByKind.{decrypt-early, decrypt_gives}
+use Rattle.record_calls.proofs.Outcomes.{Ready, ready_exact}
+use Rattle.record_calls.proofs.Sizes.{sized, secret_short}
+use Rattle.record_calls.proofs.decrypt_message.Goals as goal
+
+pub overflow_add-secret : goal.overflow_add-secret
+overflow_add-secret c = omega (arith, secret_short)
+
+pub returns-then-refused-ne0 : goal.returns-then-refused-ne0
+returns-then-refused-ne0 c = search (decrypt-early c.args.body.now)
+
+pub slice_bounds-decrypt-end-7 : goal.slice_bounds-decrypt-end-7
+slice_bounds-decrypt-end-7 c = omega (arith, sized _ c.parameters-p.ensures.well)
+
+pub slice_bounds-decrypt-end-8 : goal.slice_bounds-decrypt-end-8
+slice_bounds-decrypt-end-8 c = sym (length-take-le _ _ (omega (arith, sized _ c.parameters-p.ensures.well)))
+
+pub returns : goal.returns
+returns c =
+    let ready : Ready c.args.set c.parameters-p.result differs (c.secret_key-secret.result + c.ciphertext.result)
+    c.args.body.now c.args.first.now c.args.second.now c.args.work.now =
+    search ready_exact in
+    decrypt_gives ready c.secret_key-secret.ensures c.ciphertext.ensures.0 c.padded-most.ensures.0
+    c.decrypt_work-need.ensures c.decrypt-status.ensures c.outcome_of-2.ensures c.decrypt-status.auto.coins
+    c.decrypt-status.auto.message

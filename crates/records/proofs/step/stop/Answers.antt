@@ -1,0 +1,7 @@
+-- `records::step::stop` meets its contract.
+-- Assumes nothing.
+use Rattle.records.proofs.Stepping.{stopped_exit}
+use Rattle.records.proofs.step.stop.Goals as goal
+
+pub returns : goal.returns
+returns c = stopped_exit c.new.ensures c.put_refusal-next.ensures
