@@ -23,7 +23,7 @@ returns-then-cut c =
 pub returns-then-not-known : goal.returns-then-not-known
 returns-then-not-known c =
     read_unknown _ _ (passed c.if-left-lt6.false c.is_marked.ensures c.if-not-is_marked.false c.body_length-body.ensures)
-    (sym c.is_cut-cut.ensures ∙ c.if-cut.false) (ap not (sym c.is_kind-known.ensures ∙ c.if-not-known.true))
+    (cc) (ap not (sym c.is_kind-known.ensures ∙ c.if-not-known.true))
 
 pub returns : goal.returns
 returns c =
