@@ -8,7 +8,8 @@ use native.Mathlib.Omega.{arith}
 use borrow.Author.Tests.{eq-eqb, le-leb, not-false}
 use lib.Dec.{lit<}
 use Rattle.kindi.specs.declared.Params.{Params}
-use Rattle.kindi.specs.Params.{is_set, of_set, public_length, secret_length, ciphertext_length, padded_length, keygen_work, encrypt_work, decrypt_work, noise_work}
+use Rattle.kindi.specs.Params.{is_set, of_set, public_length, secret_length, ciphertext_length}
+use Rattle.kindi.specs.Params.{padded_length, keygen_work, encrypt_work, decrypt_work, noise_work}
 use Rattle.kindi.specs.Decrypt.{Ending, blank, marked, other}
 use Rattle.kindi.specs.Answers.{Answer, refused, answered, refuse_if, then, recovered_coins, plain}
 use Rattle.kindi.specs.Answers.{keygen, encrypt, encrypt_each, encaps, decrypt, decaps, noise_of}

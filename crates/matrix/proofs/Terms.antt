@@ -80,7 +80,8 @@ term_added n from to a v sums {ys} r made =
     rw long (record {
       there = λ x l.
           cong_trans (cong_of_eq (ap pos (entry_in (to * n) n ys sums ys_long r.to_there x l)))
-          (cong_trans (cong_of_eq (ap (λ (zs : List ℕ). of_nats zs x) is)) (cong_trans (of_nats-residues (suc-le-suc zero-le) n sum l) (cong_of_eq (read x l))));
+          (cong_trans (cong_of_eq (ap (λ (zs : List ℕ). of_nats zs x) is))
+          (cong_trans (of_nats-residues (suc-le-suc zero-le) n sum l) (cong_of_eq (read x l))));
       others = λ b x l other.
           sides to b
           (λ g.

@@ -57,7 +57,8 @@ column_next n f r v i k = simp (towards_suc, +ℤ_assoc)
 -- What the code adds to acc is a column.
 pub column_more : (n : ℕ) (f : Poly) (row xs acc : List ℕ) (i : ℕ) → i < n
     → acc ≡ residues 65536 n (columns n f (of_nats row) (of_nats xs) i)
-    → tabulate n (λ k. add_term (get_or acc k 0) (get_or xs i 0) (get_or (reached n i row) k 0)) ≡ residues 65536 n (columns n f (of_nats row) (of_nats xs) (i + 1))
+    → tabulate n (λ k. add_term (get_or acc k 0) (get_or xs i 0) (get_or (reached n i row) k 0)) ≡ residues 65536 n
+    (columns n f (of_nats row) (of_nats xs) (i + 1))
 unfolding residues
 column_more n f row xs acc i h e =
     tabulate_ext n
@@ -72,13 +73,15 @@ column_more n f row xs acc i h e =
 -- What the code adds to acc is two columns.
 pub columns_more : (n : ℕ) (f : Poly) (row xs acc : List ℕ) (i : ℕ) → i + 1 < n
     → acc ≡ residues 65536 n (columns n f (of_nats row) (of_nats xs) i)
-    → tabulate n (λ k. add_term (add_term (get_or acc k 0) (get_or xs i 0) (get_or (reached_two n i row) (k + 1) 0)) (get_or xs (i + 1) 0) (get_or (reached_two n i row) k 0))
+    → tabulate n (λ k. add_term (add_term (get_or acc k 0) (get_or xs i 0) (get_or (reached_two n i row) (k + 1) 0))
+    (get_or xs (i + 1) 0) (get_or (reached_two n i row) k 0))
     ≡ residues 65536 n (columns n f (of_nats row) (of_nats xs) (i + 2))
 unfolding residues
 columns_more n f row xs acc i h e =
     let next : i + 1 + 1 ≡ i + 2 = omega arith in
     tabulate_ext n
-    (λ k. add_term (add_term (get_or acc k 0) (get_or xs i 0) (get_or (reached_two n i row) (k + 1) 0)) (get_or xs (i + 1) 0) (get_or (reached_two n i row) k 0))
+    (λ k. add_term (add_term (get_or acc k 0) (get_or xs i 0) (get_or (reached_two n i row) (k + 1) 0))
+    (get_or xs (i + 1) 0) (get_or (reached_two n i row) k 0))
     (λ k. residue 65536 (columns n f (of_nats row) (of_nats xs) (i + 2) k))
     (λ k hk.
     let first : n - 1 - i + (k + 1) ≡ n - i + k = omega arith in

@@ -3,7 +3,8 @@
 use Prim.Native.Nat.{◌≤◌}
 use native.Mathlib.Omega.{arith}
 use Rattle.kindi.specs.declared.Params.{Params}
-use Rattle.kindi.specs.Params.{WellFormed, stored_length, public_length, secret_length, ciphertext_length, padded_length, keygen_work, encrypt_work, decrypt_work}
+use Rattle.kindi.specs.Params.{WellFormed, stored_length, public_length, secret_length}
+use Rattle.kindi.specs.Params.{ciphertext_length, padded_length, keygen_work, encrypt_work, decrypt_work}
 use Rattle.kindi.proofs.Lengths.{length_mono, work_areas}
 use Rattle.record_calls.specs.Outputs.{first_most, second_most}
 

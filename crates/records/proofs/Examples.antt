@@ -27,7 +27,8 @@ text =
 
 pub example : transcript input ≡ text
 unfolding transcript record_lines lines_from lines_of step step_by step_line read_header header_number
-    record_answer joined record_parts wrong_length body_bytes in_set refuse_if then of_set number output concat_map decimal_in decimal fields output_field line end_line
+    record_answer joined record_parts wrong_length body_bytes in_set refuse_if then of_set number output concat_map
+    decimal_in decimal fields output_field line end_line
 example = refl
 
 pub empty : transcript [] ≡ 101 ∷ 110 ∷ 100 ∷ 32 ∷ 48 ∷ 10 ∷ []

@@ -20,7 +20,8 @@ loop-i-init c =
 
 pub overflow_add-total : goal.overflow_add-total
 overflow_add-total c =
-    sum_fits c.args.a.now c.args.b.now c.requires c.loop-i.invariant.within c.loop-i.invariant.summed 1 (omega arith) (record { sfits = c.times-total.type_inv })
+    sum_fits c.args.a.now c.args.b.now c.requires c.loop-i.invariant.within c.loop-i.invariant.summed 1 (omega arith)
+    (record { sfits = c.times-total.type_inv })
     (one_term c.args.a.now c.args.b.now c.loop-i.i (record { sfits = omega arith }) (record { sfits = omega arith }) c.times-total.ensures)
 
 pub loop-i-preserved : goal.loop-i-preserved
@@ -28,7 +29,8 @@ loop-i-preserved c =
     record {
       within = omega arith;
       summed =
-          sum_more c.args.a.now c.args.b.now c.requires c.loop-i.invariant.within c.loop-i.invariant.summed 1 (omega arith) (record { sfits = c.times-total.type_inv })
+          sum_more c.args.a.now c.args.b.now c.requires c.loop-i.invariant.within c.loop-i.invariant.summed 1
+          (omega arith) (record { sfits = c.times-total.type_inv })
           (one_term c.args.a.now c.args.b.now c.loop-i.i (record { sfits = omega arith }) (record { sfits = omega arith }) c.times-total.ensures);
     }
 

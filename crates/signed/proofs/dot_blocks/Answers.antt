@@ -15,7 +15,8 @@ loop-i-init c = record { within = omega arith; summed = refl; whole = omega arit
 
 pub overflow_add-total : goal.overflow_add-total
 overflow_add-total c =
-    sum_fits c.args.a.now c.args.b.now c.requires c.loop-i.invariant.within c.loop-i.invariant.summed 32 (omega arith) (record { sfits = c.thirty_two-total.type_inv })
+    sum_fits c.args.a.now c.args.b.now c.requires c.loop-i.invariant.within c.loop-i.invariant.summed 32 (omega arith)
+    (record { sfits = c.thirty_two-total.type_inv })
     c.thirty_two-total.ensures
 
 pub loop-i-preserved : goal.loop-i-preserved
@@ -23,7 +24,8 @@ loop-i-preserved c =
     record {
       within = omega arith;
       summed =
-          sum_more c.args.a.now c.args.b.now c.requires c.loop-i.invariant.within c.loop-i.invariant.summed 32 (omega arith) (record { sfits = c.thirty_two-total.type_inv })
+          sum_more c.args.a.now c.args.b.now c.requires c.loop-i.invariant.within c.loop-i.invariant.summed 32
+          (omega arith) (record { sfits = c.thirty_two-total.type_inv })
           c.thirty_two-total.ensures;
       whole = omega arith;
     }

@@ -8,7 +8,9 @@ use Rattle.ring.specs.Poly.{minus, of_ints}
 use Rattle.noise.proofs.sums.subtract_from.Given as goal
 
 abbrev pub invariant-loop-k : goal.invariant-loop-k
-invariant-loop-k l = (l.k ≤ length l.initial.acc) × (length l.acc ≡ length l.initial.acc) × (l.acc ≡ filled l.k (minus (of_ints l.x) (of_ints l.initial.acc)) l.initial.acc)
+invariant-loop-k l =
+    (l.k ≤ length l.initial.acc) × (length l.acc ≡ length l.initial.acc) ×
+    (l.acc ≡ filled l.k (minus (of_ints l.x) (of_ints l.initial.acc)) l.initial.acc)
 
 abbrev pub decreases-loop-k : goal.decreases-loop-k
 decreases-loop-k l = length l.initial.acc - l.k

@@ -33,19 +33,22 @@ toeplitz_128-requires-3 c =
 pub slice_bounds-add-end : goal.slice_bounds-add-end
 slice_bounds-add-end c =
     let long : length (halves c.args.acc.now c.toeplitz_128-2.new.acc c.toeplitz_128-3.new.acc) ≡ 256 =
-    replaced_long 128 c.args.acc.now c.toeplitz_128-2.new.acc c.toeplitz_128-3.new.acc c.requires.sum_long c.toeplitz_128-2.auto.acc c.toeplitz_128-3.auto.acc in
+    replaced_long 128 c.args.acc.now c.toeplitz_128-2.new.acc c.toeplitz_128-3.new.acc c.requires.sum_long
+    c.toeplitz_128-2.auto.acc c.toeplitz_128-3.auto.acc in
     omega arith
 
 pub slice_bounds-add-end-2 : goal.slice_bounds-add-end-2
 slice_bounds-add-end-2 c =
     let long : length (halves c.args.acc.now c.toeplitz_128-2.new.acc c.toeplitz_128-3.new.acc) ≡ 256 =
-    replaced_long 128 c.args.acc.now c.toeplitz_128-2.new.acc c.toeplitz_128-3.new.acc c.requires.sum_long c.toeplitz_128-2.auto.acc c.toeplitz_128-3.auto.acc in
+    replaced_long 128 c.args.acc.now c.toeplitz_128-2.new.acc c.toeplitz_128-3.new.acc c.requires.sum_long
+    c.toeplitz_128-2.auto.acc c.toeplitz_128-3.auto.acc in
     sym (first_long 128 (halves c.args.acc.now c.toeplitz_128-2.new.acc c.toeplitz_128-3.new.acc) long)
 
 pub add-requires : goal.add-requires
 add-requires c =
     let long : length (halves c.args.acc.now c.toeplitz_128-2.new.acc c.toeplitz_128-3.new.acc) ≡ 256 =
-    replaced_long 128 c.args.acc.now c.toeplitz_128-2.new.acc c.toeplitz_128-3.new.acc c.requires.sum_long c.toeplitz_128-2.auto.acc c.toeplitz_128-3.auto.acc in
+    replaced_long 128 c.args.acc.now c.toeplitz_128-2.new.acc c.toeplitz_128-3.new.acc c.requires.sum_long
+    c.toeplitz_128-2.auto.acc c.toeplitz_128-3.auto.acc in
     c.toeplitz_128.auto.acc ∙ zeros_long c.zeros_128-middle.ensures
     ∙ sym (first_long 128 (halves c.args.acc.now c.toeplitz_128-2.new.acc c.toeplitz_128-3.new.acc) long)
 

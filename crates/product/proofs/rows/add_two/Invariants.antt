@@ -13,7 +13,8 @@ abbrev pub columns : List ℕ → List ℕ → ℕ → ℕ → ℕ → ℕ
 columns acc row a b k = add_term (add_term (get_or acc k 0) a (get_or row (k + 1) 0)) b (get_or row k 0)
 
 abbrev pub invariant-loop-k : goal.invariant-loop-k
-invariant-loop-k l = (l.k ≤ length l.initial.acc) × (length l.acc ≡ length l.initial.acc) × (l.acc ≡ filled l.k (columns l.initial.acc l.row l.a l.b) l.initial.acc)
+invariant-loop-k l =
+    (l.k ≤ length l.initial.acc) × (length l.acc ≡ length l.initial.acc) × (l.acc ≡ filled l.k (columns l.initial.acc l.row l.a l.b) l.initial.acc)
 
 abbrev pub decreases-loop-k : goal.decreases-loop-k
 decreases-loop-k l = length l.initial.acc - l.k
