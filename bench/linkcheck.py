@@ -81,7 +81,7 @@ def refused_row(label, one):
 
 
 def main():
-    for path, made in ((PROGRAM, "rt check linkcheck"), (CALLS, "make bench")):
+    for path, made in ((PROGRAM, "make target/bin/linkcheck"), (CALLS, "make bench")):
         if not path.is_file():
             sys.exit(f"bench: {path.relative_to(ROOT)} is missing: run {made}")
     print()

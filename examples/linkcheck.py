@@ -55,7 +55,7 @@ def shortened(line):
 
 def main():
     if not PROGRAM.is_file():
-        sys.exit("linkcheck.py: target/bin/linkcheck is missing: run rt check linkcheck")
+        sys.exit("linkcheck.py: target/bin/linkcheck is missing: run make target/bin/linkcheck")
     programme = sys.argv[1] if len(sys.argv) > 1 else "rye, 2 kg: 250 C with steam for 10 min; 200 C for 50 min"
 
     # The oven makes its keys, and gives the public one away.

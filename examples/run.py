@@ -13,7 +13,7 @@ from pathlib import Path
 ROOT = Path(__file__).resolve().parents[1]
 LOG = ROOT / "target" / "run.log"
 
-# The programs that rt checks and runs on their stored input.
+# The programs that rt proves and runs on their stored input.
 PROGRAMS = ["shake_vectors", "ring_vectors", "linkcheck"]
 
 # The C examples, and what each shows.
@@ -33,9 +33,10 @@ def crates():
     """The crates of each crate, by crates.txt: itself, and all that it stands on."""
     found = {}
     for line in (ROOT / "crates.txt").read_text().splitlines():
-        name, colon, below = line.partition("#")[0].partition(":")
+        kind, colon, below = line.partition("#")[0].partition(":")
         if colon:
-            found[name.strip()] = {name.strip()}.union(*(found[one] for one in below.split() if one in found))
+            name = kind.split()[0]
+            found[name] = {name}.union(*(found[one] for one in below.split() if one in found))
     return found
 
 
@@ -48,7 +49,7 @@ class Progress:
             self.show()
 
     def see(self, line):
-        found = re.match(r"rt: (\w+) proved", line)
+        found = re.match(r"crate (\w+): modules", line)
         if found and found[1] in self.wanted:
             self.proved.add(found[1])
             self.show()
@@ -96,7 +97,7 @@ def main():
         print(f"what the steps print: {LOG.relative_to(ROOT)}", flush=True)
         time_taken = step(log, ["make", "lib"], below["scheme"])
         print(f"1 of 4  the library is proved and built: target/staticlib/libscheme.a ({time_taken})", flush=True)
-        time_taken = step(log, ["rt", "check", *PROGRAMS], programs - below["scheme"])
+        time_taken = step(log, ["make", "programs"], programs - below["scheme"])
         print(f"2 of 4  the programs are proved, and right on their stored cases ({time_taken})", flush=True)
         time_taken = step(log, ["make", "examples"])
         print(f"3 of 4  the examples are compiled: target/examples/ ({time_taken})", flush=True)

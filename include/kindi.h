@@ -5,8 +5,8 @@
  * exports. It is for whoever links the library; README.md says how to choose a parameter set, and what is
  * proved and what is not.
  *
- * The library is code for x86-64 with SSE2, by the System V calling convention, and for no other processor today,
- * since the compiler of the proved language makes none. The proofs speak of the source with a size_t of 64 bits.
+ * The library is code for x86-64 with SSE2, by the System V calling convention, and is compiled and tested for no
+ * other processor today. The proofs speak of the source with a size_t of 64 bits.
  * The stack is aligned to 16 bytes at a call. The code uses the xmm registers, and the 128 bytes below the stack
  * pointer that the convention gives to a function: an interrupt handler on the same stack has to leave both as
  * they were. The library needs memcpy and memset and nothing else of a C library. It is position independent
@@ -131,7 +131,7 @@ KINDI_CHECK_STATUS uint32_t kindi_shake256(const uint8_t *input, size_t input_le
 #define KINDI_CHOOSE_MAX_COINS 8u
 
 /* The most bytes of stack that a call takes, its arguments and its return address included. */
-#define KINDI_STACK_LEN 18512u
+#define KINDI_STACK_LEN 18272u
 
 /*
  * What the calls return: 0 for success, otherwise the number of a refusal. A call of the scheme makes its checks

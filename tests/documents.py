@@ -14,6 +14,9 @@ ROOT = Path(__file__).resolve().parents[1]
 CRATES = ROOT / "crates"
 CERTIFY = "docs/CERTIFY.md"
 
+# It begins with the commits between which the crates were brought to today's Rattle, a line each.
+COMMITS = "PORT.md"
+
 # What speaks of the tree as it is now; the others have histories too.
 PRESENT = ["README.md", CERTIFY, "docs/SCHEME.md", "docs/PROMISES.md", "docs/WORK-AREAS.md"]
 
@@ -40,6 +43,8 @@ def text_of(name):
 
 def check_readers():
     for path in [ROOT / "README.md", *sorted((ROOT / "docs").rglob("*.md"))]:
+        if path.name == COMMITS:
+            continue
         lines = path.read_text().splitlines()
         if len(lines) < 3 or not re.match(r"# \S", lines[0]) or not lines[2].startswith("For "):
             yield f"{path.name}: the line after its title does not say whom it is for"
@@ -85,9 +90,9 @@ def check_names():
 
 
 def declaration(crate, name):
-    """Where a struct or an enum of a crate is declared, and its lines with the comment in front of it."""
+    """Where a struct or an enum of a crate is declared, and its lines with the comment and the attributes in front of it."""
     for path in sorted((CRATES / crate / "src").glob("*.rt")):
-        found = re.search(rf"(?:^//.*\n)*^(?:pub )?(?:struct|enum) {name} \{{\n(?:.*\n)*?^\}}$", path.read_text(), re.M)
+        found = re.search(rf"(?:^//.*\n)*(?:^#\[.*\]\n)*^(?:pub )?(?:struct|enum) {name} \{{\n(?:.*\n)*?^\}}$", path.read_text(), re.M)
         if found:
             return path, len(found[0].splitlines())
     return CRATES / crate / "src", 0
@@ -102,8 +107,11 @@ def believed():
         if path in whole:
             continue
         whole.add(path)
-        uses = re.findall(r"^(?:ghost )?use Rattle·(\w+?)(?:·specs)?\.specs\.([\w.]+?)(?:\.the-variants)?\.\{", path.read_text(), re.M)
+        uses = re.findall(r"^(?:ghost |pub )?use Rattle\.(\w+)\.specs\.([\w.]+?)(?:\.TheVariants)?\.\{", path.read_text(), re.M)
         for crate, name in uses:
+            if not (CRATES / crate).is_dir():
+                # A word of the kit's own libraries.
+                continue
             if name.startswith("declared."):
                 source, lines = declaration(crate, name.rpartition(".")[2])
                 declared.setdefault(source, {})[name] = lines
@@ -180,7 +188,7 @@ def check_examples():
 
 def check_counts():
     """How many crates and edits there are, where their times are told; README.md has the time of each crate."""
-    crates = re.findall(r"^(\w+):", text_of("crates.txt"), re.M)
+    crates = re.findall(r"^(\w+)(?: staticlib)?:", text_of("crates.txt"), re.M)
     edits = len(list(CRATES.glob("*/must-fail/*.edit")))
     for document, said in (("README.md", f"{edits} must-fail edits"), ("docs/BENCH.md", f"the {edits} must-fail edits"),
                            ("docs/BENCH.md", f"the {len(crates)} crates")):

@@ -94,6 +94,11 @@ GIVEN = {
     "put_four": "dst: &mut [u16], x: u64, w: u32",
 }
 
+# The reader of 0.3.0, which divides. It stands in the library, proved, and nothing calls it; nor does anything else there call
+# what it takes of the reader's.
+EARLIER = ["field", "unpack_each", "unpack_eight", "unpack_eights"]
+TAKEN = {"low_word", "word", "put_four"}
+
 # What is used of other crates, with its body, and where the library unpacks, how often.
 USES = ["use bits::low_bits;"]
 USERS = {"cipher_terms lib.rt": 3, "decryption lib.rt": 1, "decryption recover.rt": 2, "matrix lib.rt": 1, "noise factors.rt": 1,
@@ -124,7 +129,9 @@ EVASIONS = [
     (READER, "next: self.after(w),", "next: self.after(w).after(w).after(0 - w),"),
     (READER, "c = one.next;", "c = self.after(i);"),
     (READER, "use bits::low_bits;", "use bits::low_bits;\nuse bits::quotient;"),
-    (READER, "ghost use mathlib.Core.Path.{_≡_};", "ghost use mathlib.Core.Path.{_≡_}; use bits::quotient;"),
+    (READER, "ghost use Rattle.packing.specs.Apart.{two_apart};",
+     "ghost use Rattle.packing.specs.Apart.{two_apart}; use bits::quotient;"),
+    (READER, "#[derive(Clone, Copy)]", "#[derive(Clone, Copy, Place)]"),
     (READER, "fn low_word(s: &[u8])", "fn low_word(s: &[u8], n: usize)"),
     (READER, "byte_or_zero(s, 0)", "byte_or_zero(s, (s.len() >> 3) & 0)"),
     (READER, "let past = second.byte + 7;", "let past = (len >> 3) + second.byte + 7;"),
@@ -132,6 +139,9 @@ EVASIONS = [
     (READER, "impl Cursor {", "impl Part {\n    fn place(self) -> usize { self.count << 1 }\n}\n\nimpl Cursor {"),
     (LIBRARY, "    Cursor::start().read(w, src, dst);", "    unpack_eights(w, src, dst);"),
     (LIBRARY, "    Cursor::start().read(w, src, dst);", "    Cursor { byte: w as usize / 8, bit: 0 }.read(w, src, dst);"),
+    (LIBRARY, "    let turns = pack_eights(w, src, dst);", "    unpack_each(w, dst, src);\n    let turns = pack_eights(w, src, dst);"),
+    (LIBRARY, "    let turns = pack_eights(w, src, dst);", "    let at = word(&dst[k / 8..]);\n    let turns = pack_eights(w, src, dst);"),
+    (READER, "    fn each(self,", "    fn each(self, w: u32) { crate::unpack_each(w) }\n\n    fn each_of(self,"),
     (LIBRARY, "fn put(dst", "pub fn unpack_at(w: u32) -> u32 { w / 8 }\n\nfn put(dst"),
     (BITS, "(c & ((1 << w) - 1)) as u16", "(c % (1 << w)) as u16"),
     (BITS, "(c & ((1 << w) - 1)) as u16", "rest(c, 1 << w) as u16"),
@@ -154,6 +164,7 @@ def wrongs(texts):
         if operator in reader:
             yield f"{READER}: it has {operator}"
     before, _, methods = reader.partition("impl Cursor {")
+    before = before.replace("pub(crate) fn ", "fn ")
     if flat(methods) != f"{flat(METHODS)} }}":
         yield f"{READER}: the methods are not those of the list"
     given = {name: flat(words) for name, words in re.findall(r"\bfn (\w+)\(([^)]*)\)", before)}
@@ -173,6 +184,11 @@ def wrongs(texts):
     for place, name, wanted in ((LIBRARY, "unpack", UNPACK), (BITS, "low_bits", LOW_BITS)):
         if flat(body(code(texts[place]), name)) != wanted:
             yield f"{place}: {name} is not {wanted}"
+    rest = code(texts[LIBRARY])
+    for name in EARLIER:
+        rest = rest.replace(body(rest, name), "")
+    for name in sorted({*EARLIER, *TAKEN} & set(re.findall(r"\b(\w+)\(", rest))):
+        yield f"{LIBRARY}: a call of {name}"
     if re.findall(r"\bpub fn (\w+)", texts[LIBRARY]) != ["unpack", "pack"]:
         yield f"{LIBRARY}: other functions than unpack and pack"
     users = {}

@@ -8,7 +8,7 @@ from pathlib import Path
 ROOT = Path(__file__).resolve().parents[1]
 
 # The crates that the library does not have: programs, and what only tests and the benchmark use.
-OUTSIDE = {"hex", "lines", "record_calls", "records", "linkcheck", "ring_calls", "shake_vectors", "ring_vectors"}
+OUTSIDE = {"hex_digits", "lines", "record_calls", "records", "linkcheck", "ring_calls", "shake_vectors", "ring_vectors"}
 
 
 def library():
@@ -23,13 +23,32 @@ def library():
 
 def body(text, name):
     """A function, from its name to the end of its body."""
-    found = re.search(rf"^(?:pub )?fn {name}\(.*?^\}}", text, re.M | re.S)
+    found = re.search(rf"^(?:pub(?:\(crate\))? )?fn {name}\(.*?^\}}", text, re.M | re.S)
     return found.group(0) if found else ""
 
 
+# What begins a clause of a contract, which stands on a line of its own before a body; and what the prover alone reads.
+CLAUSE = re.compile(r"^ +(?:requires|ensures)(?: \w+)? (?=\{)", re.M)
+GHOST = re.compile(r"^ghost use [^;]*;|^#!\[tactic\(auto\)\]$|^#\[derive\(Clone, Copy\)\]$", re.M)
+
+
+def closing(text, opening):
+    """The place after the brace that closes the one at the place given."""
+    depth = 0
+    for at in range(opening, len(text)):
+        depth += {"{": 1, "}": -1}.get(text[at], 0)
+        if depth == 0:
+            return at + 1
+    return len(text)
+
+
 def code(text):
-    """The text without contracts and the names that they use."""
-    return re.sub(r"^ghost use [^;]*;|^ +(?:requires|ensures) \{(?s:.*?)⌝ \}", "", text, flags=re.M)
+    """The text without contracts, the names that they use, and the attributes of the prover and of copies."""
+    text, kept, at = GHOST.sub("", text), [], 0
+    while found := CLAUSE.search(text, at):
+        kept.append(text[at:found.start()])
+        at = closing(text, found.end())
+    return "".join(kept) + text[at:]
 
 
 def report(test, wrongs, evasions, said):

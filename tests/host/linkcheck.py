@@ -526,7 +526,7 @@ def check_memory(stocks):
 
 
 def test():
-    check(PROGRAM.is_file(), f"{PROGRAM.relative_to(ROOT)} is missing: run rt check linkcheck")
+    check(PROGRAM.is_file(), f"{PROGRAM.relative_to(ROOT)} is missing: run make {PROGRAM.relative_to(ROOT)}")
     BUILD.mkdir(parents=True, exist_ok=True)
     stocks = [Stock(number) for number in kindi.SETS]
 

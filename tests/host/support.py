@@ -45,7 +45,7 @@ def run(command):
 def archive(crate="scheme"):
     """The static library of a crate; the one of scheme is what firmware links."""
     path = ROOT / "target" / "staticlib" / f"lib{crate}.a"
-    check(path.is_file(), f"{path.relative_to(ROOT)} is missing: run rt staticlib {crate}")
+    check(path.is_file(), f"{path.relative_to(ROOT)} is missing: run make {path.relative_to(ROOT)}")
     return path
 
 
