@@ -10,6 +10,8 @@ ghost use Rattle.bits.specs.Bits.{bytes_for, pack, unpack, low_bits};
 use bits::low_bits;
 use reader::{Cursor, low_word, put_four, word};
 
+// The reader of 0.3.0, from `field` to `unpack_eights`, stands until the request for the cursor has landed; nothing calls it.
+
 // The w bits from bit `shift` of byte k on.
 fn field(w: u32, src: &[u8], k: usize, shift: u32) -> u16
     requires { (w ≤ 16) × (shift < 8) × (k ≤ length src.now) }
