@@ -55,16 +55,16 @@ decompress-requires c =
 
 pub overflow_add-at : goal.overflow_add-at
 overflow_add-at c =
-    let in-s = inside _ c.loop-i.invariant (omega arith) in
-    omega (arith, in-s.fits, in-s.short)
+    let in_s = inside _ c.loop-i.invariant (omega arith) in
+    omega (arith, in_s.fits, in_s.short)
 
 pub slice_bounds-multiply_add-end : goal.slice_bounds-multiply_add-end
 slice_bounds-multiply_add-end c = omega (arith, (inside _ c.loop-i.invariant (omega arith)).fits)
 
 pub offset_bounds-s-at : goal.offset_bounds-s-at
 offset_bounds-s-at c =
-    let in-s = inside _ c.loop-i.invariant (omega arith) in
-    omega (arith, in-s.fits, in-s.short)
+    let in_s = inside _ c.loop-i.invariant (omega arith) in
+    omega (arith, in_s.fits, in_s.short)
 
 pub multiply_add-requires : goal.multiply_add-requires
 multiply_add-requires c =
@@ -78,8 +78,8 @@ multiply_add-requires c =
 
 pub overflow_add-at-in-loop-i : goal.overflow_add-at-in-loop-i
 overflow_add-at-in-loop-i c =
-    let in-s = inside _ c.loop-i.invariant (omega arith) in
-    omega (arith, in-s.fits, in-s.short)
+    let in_s = inside _ c.loop-i.invariant (omega arith) in
+    omega (arith, in_s.fits, in_s.short)
 
 pub loop-i-smaller : goal.loop-i-smaller
 loop-i-smaller c = turn_less (omega arith)

@@ -13,64 +13,64 @@ use Rattle.cipher_terms.proofs.decompress.Goals as goal
 
 pub slice_bounds-unpack-count : goal.slice_bounds-unpack-count
 slice_bounds-unpack-count c =
-    let stored-inside : c.length_of-from.result + length_of c.args.p 1 (c.args.p.k - c.args.p.t) ≤ length c.args.pk.now =
+    let stored_inside : c.length_of-from.result + length_of c.args.p 1 (c.args.p.k - c.args.p.t) ≤ length c.args.pk.now =
     let p = c.args.p in
     omega (arith, c.length_of-from.ensures.0, within p (p.k - p.t) c.requires.turn, c.requires.stored_there) in
-    omega (arith, stored-inside)
+    omega (arith, stored_inside)
 
 pub slice_bounds-unpack-start : goal.slice_bounds-unpack-start
 slice_bounds-unpack-start c =
-    let stored-inside : c.length_of-from.result + length_of c.args.p 1 (c.args.p.k - c.args.p.t) ≤ length c.args.pk.now =
+    let stored_inside : c.length_of-from.result + length_of c.args.p 1 (c.args.p.k - c.args.p.t) ≤ length c.args.pk.now =
     let p = c.args.p in
     omega (arith, c.length_of-from.ensures.0, within p (p.k - p.t) c.requires.turn, c.requires.stored_there) in
-    omega (arith, stored-inside)
+    omega (arith, stored_inside)
 
 pub unpack-requires : goal.unpack-requires
 unpack-requires c =
-    let stored-inside : c.length_of-from.result + length_of c.args.p 1 (c.args.p.k - c.args.p.t) ≤ length c.args.pk.now =
+    let stored_inside : c.length_of-from.result + length_of c.args.p 1 (c.args.p.k - c.args.p.t) ≤ length c.args.pk.now =
     let p = c.args.p in
     omega (arith, c.length_of-from.ensures.0, within p (p.k - p.t) c.requires.turn, c.requires.stored_there) in
     let p = c.args.p in
     let W = c.requires.well in
-    (omega (arith, W.word), reads_rest p W 1 (p.k - p.t) _ c.args.pk.now (c.requires.list_long ∙ sym (one-mul p.n)) (stored-inside))
+    (omega (arith, W.word), reads_rest p W 1 (p.k - p.t) _ c.args.pk.now (c.requires.list_long ∙ sym (one-mul p.n)) (stored_inside))
 
 pub slice_bounds-small-count : goal.slice_bounds-small-count
 slice_bounds-small-count c =
-    let low-inside : c.length_of-at.result + length_of c.args.p 1 c.args.p.t ≤ length c.args.low.now =
+    let low_inside : c.length_of-at.result + length_of c.args.p 1 c.args.p.t ≤ length c.args.low.now =
     let p = c.args.p in
     omega (arith, c.length_of-at.ensures.0, within p p.t c.requires.turn, c.requires.low_there) in
-    omega (arith, low-inside)
+    omega (arith, low_inside)
 
 pub slice_bounds-small-start : goal.slice_bounds-small-start
 slice_bounds-small-start c =
-    let low-inside : c.length_of-at.result + length_of c.args.p 1 c.args.p.t ≤ length c.args.low.now =
+    let low_inside : c.length_of-at.result + length_of c.args.p 1 c.args.p.t ≤ length c.args.low.now =
     let p = c.args.p in
     omega (arith, c.length_of-at.ensures.0, within p p.t c.requires.turn, c.requires.low_there) in
-    omega (arith, low-inside)
+    omega (arith, low_inside)
 
 pub small-requires : goal.small-requires
 small-requires c =
-    let low-inside : c.length_of-at.result + length_of c.args.p 1 c.args.p.t ≤ length c.args.low.now =
+    let low_inside : c.length_of-at.result + length_of c.args.p 1 c.args.p.t ≤ length c.args.low.now =
     let p = c.args.p in
     omega (arith, c.length_of-at.ensures.0, within p p.t c.requires.turn, c.requires.low_there) in
     let p = c.args.p in
     let W = c.requires.well in
-    (omega (arith, W.word, W.kept), reads_rest p W 1 p.t _ c.args.low.now (c.requires.low_long ∙ sym (one-mul p.n)) (low-inside))
+    (omega (arith, W.word, W.kept), reads_rest p W 1 p.t _ c.args.low.now (c.requires.low_long ∙ sym (one-mul p.n)) (low_inside))
 
 pub add-requires : goal.add-requires
 add-requires c =
-    let list-kept : length c.raise.new.xs ≡ c.args.p.n =
+    let list_kept : length c.raise.new.xs ≡ c.args.p.n =
     c.raise.auto.xs ∙ c.unpack.auto.dst ∙ c.requires.list_long in
-    c.small.auto.dst ∙ c.requires.low_long ∙ sym (list-kept)
+    c.small.auto.dst ∙ c.requires.low_long ∙ sym (list_kept)
 
 pub constant-requires : goal.constant-requires
 constant-requires c = c.requires.well
 
 pub add_constant-requires : goal.add_constant-requires
 add_constant-requires c =
-    let list-kept : length c.raise.new.xs ≡ c.args.p.n =
+    let list_kept : length c.raise.new.xs ≡ c.args.p.n =
     c.raise.auto.xs ∙ c.unpack.auto.dst ∙ c.requires.list_long in
-    rw (c.add.auto.acc ∙ list-kept) c.requires.well.some_coefficients
+    rw (c.add.auto.acc ∙ list_kept) c.requires.well.some_coefficients
 
 pub returns : goal.returns
 returns c =

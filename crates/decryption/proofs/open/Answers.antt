@@ -76,12 +76,12 @@ slice_bounds-unmask-end c =
     simp length-take (omega (arith, c.coefficients-all.ensures.1)) in
     let sums_long : length c.sums_less_cipher.new.sums ≡ c.coefficients-all.result =
     c.sums_less_cipher.auto.sums ∙ fresh in
-    let sums-there : take c.coefficients-all.result
+    let sums_there : take c.coefficients-all.result
     (c.sums_less_cipher.new.sums ++ drop c.coefficients-all.result c.sums-sums.result) ≡
     c.sums_less_cipher.new.sums =
     take_at c.sums_less_cipher.new.sums (drop c.coefficients-all.result c.sums-sums.result)
     c.coefficients-all.result (sums_long) in
-    sym (ap length (sums-there) ∙ sums_long)
+    sym (ap length (sums_there) ∙ sums_long)
 
 pub unmask-requires : goal.unmask-requires
 unmask-requires c =
@@ -90,7 +90,7 @@ unmask-requires c =
     simp length-take (omega (arith, c.coefficients-all.ensures.1)) in
     let sums_long : length c.sums_less_cipher.new.sums ≡ c.coefficients-all.result =
     c.sums_less_cipher.auto.sums ∙ fresh in
-    let sums-there : take c.coefficients-all.result
+    let sums_there : take c.coefficients-all.result
     (c.sums_less_cipher.new.sums ++ drop c.coefficients-all.result c.sums-sums.result) ≡
     c.sums_less_cipher.new.sums =
     take_at c.sums_less_cipher.new.sums (drop c.coefficients-all.result c.sums-sums.result)
@@ -98,7 +98,7 @@ unmask-requires c =
     let pre = c.requires in
     record {
       well = pre.well;
-      sums_long = ap length (sums-there) ∙ sums_long ∙ c.coefficients-all.ensures.0;
+      sums_long = ap length (sums_there) ∙ sums_long ∙ c.coefficients-all.ensures.0;
       work_long = omega (arith, c.sums_less_cipher.auto.work, pre.work_long);
     }
 
@@ -109,7 +109,7 @@ returns c =
     simp length-take (omega (arith, c.coefficients-all.ensures.1)) in
     let sums_long : length c.sums_less_cipher.new.sums ≡ c.coefficients-all.result =
     c.sums_less_cipher.auto.sums ∙ fresh in
-    let sums-there : take c.coefficients-all.result
+    let sums_there : take c.coefficients-all.result
     (c.sums_less_cipher.new.sums ++ drop c.coefficients-all.result c.sums-sums.result) ≡
     c.sums_less_cipher.new.sums =
     take_at c.sums_less_cipher.new.sums (drop c.coefficients-all.result c.sums-sums.result)
@@ -118,4 +118,4 @@ returns c =
     let p = a.p in
     open_exit p c.requires.well a.sk.now a.ct.now a.coins.now c.sums_less_cipher.new.work _
     (rw (sym (public_taken p a.sk.now c.stored.ensures.0)) c.sums_less_cipher.ensures)
-    (sums-there) c.unmask.ensures.0 c.unmask.ensures.1
+    (sums_there) c.unmask.ensures.0 c.unmask.ensures.1

@@ -25,7 +25,7 @@ pub add_noiseless-requires : goal.add_noiseless-requires
 add_noiseless-requires c =
     let written : List ℕ =
     c.shake.new.output ++ drop c.coins_stream-stream.result c.args.work.now in
-    let written-long : length (written) ≡ length c.args.work.now =
+    let written_long : length (written) ≡ length c.args.work.now =
     first_same c.coins_stream-stream.result c.shake.new.output c.args.work.now c.shake.auto.output in
     let stream : take (coins_stream_length c.args.p) (written) ≡ coins_stream c.args.p c.args.coins.now =
     let is = c.coins_stream-stream.ensures.0 in
@@ -39,9 +39,9 @@ add_noiseless-requires c =
       well = pre.well;
       public_long = pre.public_long;
       coins_long = pre.coins_long;
-      stream_fits = omega (arith, written-long, pre.work_long);
+      stream_fits = omega (arith, written_long, pre.work_long);
       stream = stream_of p c.args.coins.now (stream);
-      polynomial_fits = omega (arith, written-long, end_is, pre.work_long);
+      polynomial_fits = omega (arith, written_long, end_is, pre.work_long);
       secret_long = pre.secret_long;
       sums_long = c.subtract_from.auto.xs ∙ c.unpack.auto.dst ∙ pre.sums_long;
     }

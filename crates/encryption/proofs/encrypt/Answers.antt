@@ -9,10 +9,10 @@ use Rattle.encryption.proofs.encrypt.Goals as goal
 
 pub slice_bounds-encrypt_with-end : goal.slice_bounds-encrypt_with-end
 slice_bounds-encrypt_with-end c =
-    let secret-part : length (take (c.args.p.l * c.args.p.n) c.zeros-s.result) ≡ c.args.p.l * c.args.p.n =
+    let secret_part : length (take (c.args.p.l * c.args.p.n) c.zeros-s.result) ≡ c.args.p.l * c.args.p.n =
     let room : length c.zeros-s.result ≡ 1536 = search rules in
     simp length-take (omega (arith, c.requires.well.vector)) in
-    sym (secret-part)
+    sym (secret_part)
 
 pub slice_bounds-encrypt_with-end-2 : goal.slice_bounds-encrypt_with-end-2
 slice_bounds-encrypt_with-end-2 c =
@@ -23,10 +23,10 @@ slice_bounds-encrypt_with-end-2 c =
 
 pub encrypt_with-requires : goal.encrypt_with-requires
 encrypt_with-requires c =
-    let secret-part : length (take (c.args.p.l * c.args.p.n) c.zeros-s.result) ≡ c.args.p.l * c.args.p.n =
+    let secret_part : length (take (c.args.p.l * c.args.p.n) c.zeros-s.result) ≡ c.args.p.l * c.args.p.n =
     let room : length c.zeros-s.result ≡ 1536 = search rules in
     simp length-take (omega (arith, c.requires.well.vector)) in
     let sums_part : length (take c.coefficients-all.result c.sums-sums.result) ≡ c.coefficients-all.result =
     let room : length c.sums-sums.result ≡ 2048 = search rules in
     simp length-take (omega (arith, c.coefficients-all.ensures.1)) in
-    (c.requires, secret-part, sums_part ∙ c.coefficients-all.ensures.0)
+    (c.requires, secret_part, sums_part ∙ c.coefficients-all.ensures.0)

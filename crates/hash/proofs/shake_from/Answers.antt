@@ -23,10 +23,10 @@ sound_complete : {r : ℕ} (m : List ℕ) {s taken complete : Sponge} → 0 < r 
 sound_complete m pos fits e1 e2 e3 = subst Sound (sym e3) (sound_finished _ (sound_taken m pos fits e1 e2))
 
 -- What a sponge gives after a string and after i bytes of output is SHAKE of the string from place i on.
-squeezed-there : (r : ℕ) (m : List ℕ) (i n : ℕ) {s taken complete there : Sponge} {output : List ℕ} → 0 < r → r ≤ 200
+squeezed_there : (r : ℕ) (m : List ℕ) (i n : ℕ) {s taken complete there : Sponge} {output : List ℕ} → 0 < r → r ≤ 200
     → s ≡ fresh r → taken ≡ absorbed s m → complete ≡ finished taken → there ≡ advanced complete i → output ≡ squeezed there n
     → output ≡ shake_from r m i n
-squeezed-there r m i n pos fits e1 e2 e3 e4 e5 = e5 ∙ rw (e4, e3, e2, e1) (squeezed-from r m i n pos fits)
+squeezed_there r m i n pos fits e1 e2 e3 e4 e5 = e5 ∙ rw (e4, e3, e2, e1) (squeezed-from r m i n pos fits)
 
 pub absorb-taken-requires : goal.absorb-taken-requires
 absorb-taken-requires c = sound_new c.requires.0 c.requires.1 c.new.ensures
@@ -46,5 +46,5 @@ squeeze-requires c =
 
 pub returns : goal.returns
 returns c =
-    squeezed-there _ _ _ _ c.requires.0 c.requires.1 c.new.ensures c.absorb-taken.ensures c.finish-complete.ensures
+    squeezed_there _ _ _ _ c.requires.0 c.requires.1 c.new.ensures c.absorb-taken.ensures c.finish-complete.ensures
     c.skip-there.ensures c.squeeze.ensures.bytes

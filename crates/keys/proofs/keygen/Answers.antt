@@ -13,13 +13,13 @@ use Rattle.keys.proofs.keygen.Goals as goal
 
 pub slice_bounds-public_polynomials-end-2 : goal.slice_bounds-public_polynomials-end-2
 slice_bounds-public_polynomials-end-2 c =
-    let public-part : length (take c.stored-stored.result c.args.pk.now) ≡ c.stored-stored.result =
+    let public_part : length (take c.stored-stored.result c.args.pk.now) ≡ c.stored-stored.result =
     simp length-take (omega (arith, c.stored-stored.ensures.0, c.requires.public_long)) in
-    sym (public-part)
+    sym (public_part)
 
 pub public_polynomials-requires : goal.public_polynomials-requires
 public_polynomials-requires c =
-    let public-part : length (take c.stored-stored.result c.args.pk.now) ≡ c.stored-stored.result =
+    let public_part : length (take c.stored-stored.result c.args.pk.now) ≡ c.stored-stored.result =
     simp length-take (omega (arith, c.stored-stored.ensures.0, c.requires.public_long)) in
     let pre = c.requires in
     record {
@@ -30,7 +30,7 @@ public_polynomials-requires c =
         polynomial_fits = omega (arith, pre.work_long);
       };
       some_kept = pre.well.kept;
-      stored_long = public-part ∙ c.stored-stored.ensures.0;
+      stored_long = public_part ∙ c.stored-stored.ensures.0;
     }
 
 pub copy-requires : goal.copy-requires
@@ -53,26 +53,26 @@ pub slice_bounds-copy-end-3 : goal.slice_bounds-copy-end-3
 slice_bounds-copy-end-3 c =
     let secret_fits : c.stored-stored.result + c.args.p.seed + c.args.p.seed ≤ length c.args.sk.now =
     omega (arith, c.stored-stored.ensures.0, c.requires.secret_long) in
-    let secret-part : length (take (c.stored-stored.result + c.args.p.seed) c.args.sk.now) ≡ c.stored-stored.result + c.args.p.seed =
+    let secret_part : length (take (c.stored-stored.result + c.args.p.seed) c.args.sk.now) ≡ c.stored-stored.result + c.args.p.seed =
     simp length-take (omega (arith, secret_fits)) in
-    sym (secret-part)
+    sym (secret_part)
 
 pub copy-requires-2 : goal.copy-requires-2
 copy-requires-2 c =
     let secret_fits : c.stored-stored.result + c.args.p.seed + c.args.p.seed ≤ length c.args.sk.now =
     omega (arith, c.stored-stored.ensures.0, c.requires.secret_long) in
-    let secret-part : length (take (c.stored-stored.result + c.args.p.seed) c.args.sk.now) ≡ c.stored-stored.result + c.args.p.seed =
+    let secret_part : length (take (c.stored-stored.result + c.args.p.seed) c.args.sk.now) ≡ c.stored-stored.result + c.args.p.seed =
     simp length-take (omega (arith, secret_fits)) in
-    let public-part : length (take c.stored-stored.result c.args.pk.now) ≡ c.stored-stored.result =
+    let public_part : length (take c.stored-stored.result c.args.pk.now) ≡ c.stored-stored.result =
     simp length-take (omega (arith, c.stored-stored.ensures.0, c.requires.public_long)) in
-    let stored-size : length c.public_polynomials.new.dst ≡ c.stored-stored.result =
-    c.public_polynomials.auto.dst ∙ public-part in
+    let stored_size : length c.public_polynomials.new.dst ≡ c.stored-stored.result =
+    c.public_polynomials.auto.dst ∙ public_part in
     let n : ℕ = c.stored-stored.result in
     let stored : List ℕ = c.public_polynomials.new.dst in
     let seed : List ℕ = c.copy.new.dst in
-    let long = stored-size in
+    let long = stored_size in
     let whole = ap length (then-rest n c.args.pk.now stored seed long) ∙ length-append stored seed in
-    secret-part ∙ sym (whole ∙ ap₂ ◌+◌ long (ap length c.copy.ensures ∙ c.requires.μ_long))
+    secret_part ∙ sym (whole ∙ ap₂ ◌+◌ long (ap length c.copy.ensures ∙ c.requires.μ_long))
 
 pub slice_bounds-copy-end-4 : goal.slice_bounds-copy-end-4
 slice_bounds-copy-end-4 c =
@@ -80,9 +80,9 @@ slice_bounds-copy-end-4 c =
     omega (arith, c.stored-stored.ensures.0, c.requires.secret_long) in
     let begun : List ℕ =
     c.copy-2.new.dst ++ drop (c.stored-stored.result + c.args.p.seed) c.args.sk.now in
-    let begun-same : length (begun) ≡ length c.args.sk.now =
+    let begun_same : length (begun) ≡ length c.args.sk.now =
     first_same (c.stored-stored.result + c.args.p.seed) c.copy-2.new.dst c.args.sk.now c.copy-2.auto.dst in
-    omega (arith, secret_fits, begun-same)
+    omega (arith, secret_fits, begun_same)
 
 pub copy-requires-3 : goal.copy-requires-3
 copy-requires-3 c =
@@ -90,10 +90,10 @@ copy-requires-3 c =
     omega (arith, c.stored-stored.ensures.0, c.requires.secret_long) in
     let begun : List ℕ =
     c.copy-2.new.dst ++ drop (c.stored-stored.result + c.args.p.seed) c.args.sk.now in
-    let begun-same : length (begun) ≡ length c.args.sk.now =
+    let begun_same : length (begun) ≡ length c.args.sk.now =
     first_same (c.stored-stored.result + c.args.p.seed) c.copy-2.new.dst c.args.sk.now c.copy-2.auto.dst in
     let p = c.args.p in
-    part_length (c.stored-stored.result + p.seed) p.seed _ (rw (begun-same) (secret_fits)) ∙
+    part_length (c.stored-stored.result + p.seed) p.seed _ (rw (begun_same) (secret_fits)) ∙
     sym c.requires.γ_long
 
 pub slice_bounds-copy-count-3 : goal.slice_bounds-copy-count-3
@@ -175,19 +175,19 @@ pub returns : goal.returns
 returns c =
     let secret_fits : c.stored-stored.result + c.args.p.seed + c.args.p.seed ≤ length c.args.sk.now =
     omega (arith, c.stored-stored.ensures.0, c.requires.secret_long) in
-    let secret-part : length (take (c.stored-stored.result + c.args.p.seed) c.args.sk.now) ≡ c.stored-stored.result + c.args.p.seed =
+    let secret_part : length (take (c.stored-stored.result + c.args.p.seed) c.args.sk.now) ≡ c.stored-stored.result + c.args.p.seed =
     simp length-take (omega (arith, secret_fits)) in
-    let public-part : length (take c.stored-stored.result c.args.pk.now) ≡ c.stored-stored.result =
+    let public_part : length (take c.stored-stored.result c.args.pk.now) ≡ c.stored-stored.result =
     simp length-take (omega (arith, c.stored-stored.ensures.0, c.requires.public_long)) in
-    let stored-size : length c.public_polynomials.new.dst ≡ c.stored-stored.result =
-    c.public_polynomials.auto.dst ∙ public-part in
+    let stored_size : length c.public_polynomials.new.dst ≡ c.stored-stored.result =
+    c.public_polynomials.auto.dst ∙ public_part in
     let a = c.args in
     let p = a.p in
-    let public = key_made p a.mu.now a.gamma.now a.pk.now (stored-size)
+    let public = key_made p a.mu.now a.gamma.now a.pk.now (stored_size)
     c.public_polynomials.ensures.0 c.copy.ensures in (
       public,
       secret_made p a.mu.now a.gamma.now a.z.now a.sk.now (c.stored-stored.result + p.seed) p.seed
-          (c.copy-2.auto.dst ∙ secret-part)
+          (c.copy-2.auto.dst ∙ secret_part)
           (ap length c.copy-3.ensures ∙ c.requires.γ_long) (secret_fits) (c.copy-2.ensures ∙ public)
           c.copy-3.ensures c.copy-4.ensures,
     )

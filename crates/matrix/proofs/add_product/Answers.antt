@@ -24,7 +24,7 @@ loop-m-init c =
       vector_long = room.vector_long;
       bytes_long = room.bytes_long;
       list_long = room.list_long;
-      count-is = c.polynomials-count.ensures.0;
+      count_is = c.polynomials-count.ensures.0;
       few = c.polynomials-count.ensures.1;
       within = omega arith;
       walking = walking_begun a.p room.well a.mu.now a.columns a.v.now a.sums.now room.sums_long words c.begin-s.ensures;
@@ -42,14 +42,14 @@ step-s-requires c =
         sums_long = h.walking.long;
       };
       sound = walking_sound h.well h.walking;
-      row = walking_row h.well h.walking (omega (arith, h.count-is));
+      row = walking_row h.well h.walking (omega (arith, h.count_is));
       column = h.walking.column;
     }
 
 pub next_row-i-requires : goal.next_row-i-requires
 next_row-i-requires c =
     let h = c.loop-m.invariant in
-    (omega (arith, walking_row h.well h.walking (omega (arith, h.count-is)), h.well.few), omega (arith, h.walking.column, h.well.few))
+    (omega (arith, walking_row h.well h.walking (omega (arith, h.count_is)), h.well.few), omega (arith, h.walking.column, h.well.few))
 
 pub next_column-j-requires : goal.next_column-j-requires
 next_column-j-requires c = omega (arith, c.loop-m.invariant.walking.column, c.loop-m.invariant.well.few)
@@ -68,11 +68,11 @@ loop-m-preserved c =
       vector_long = h.vector_long;
       bytes_long = c.step-s.auto.bytes ∙ h.bytes_long;
       list_long = c.step-s.auto.a ∙ h.list_long;
-      count-is = h.count-is;
+      count_is = h.count_is;
       few = h.few;
       within = omega arith;
       walking = rw (c.next_row-i.ensures, c.next_column-j.ensures)
-          (walking_more h.well h.walking (omega (arith, h.count-is)) c.step-s.auto.sums c.step-s.ensures);
+          (walking_more h.well h.walking (omega (arith, h.count_is)) c.step-s.auto.sums c.step-s.ensures);
     }
 
 pub shape_of-bytes : goal.shape_of-bytes
@@ -87,4 +87,4 @@ shape_of-sums c = c.loop-m.invariant.walking.long ∙ sym c.requires.sums_long
 pub returns : goal.returns
 returns c =
     let h = c.loop-m.invariant in
-    walking_end h.well h.walking (omega (arith, h.count-is)) (omega (arith, h.count-is, h.within))
+    walking_end h.well h.walking (omega (arith, h.count_is)) (omega (arith, h.count_is, h.within))

@@ -18,7 +18,7 @@ pub record Going (P : Params) (μ : List ℕ) (columns : Bool) (v sums₀ : List
   pub vector_long : length v ≡ P.l * P.n
   pub bytes_long : length bytes ≡ polynomial_length P
   pub list_long : length a ≡ P.n
-  pub count-is : count ≡ P.l * P.l
+  pub count_is : count ≡ P.l * P.l
   pub few : count ≤ 64
   pub within : m ≤ count
   pub walking : Walking P μ columns v sums₀ m i j s sums

@@ -9,15 +9,15 @@ use Rattle.matrix.proofs.begin.Goals as goal
 
 pub absorb-taken-requires : goal.absorb-taken-requires
 absorb-taken-requires c =
-    let sound-new : Sound c.new.result =
+    let sound_new : Sound c.new.result =
     subst Sound (sym c.new.ensures) (sound_fresh _ c.requires.some_rate c.requires.rate_fits) in
-    sound-new
+    sound_new
 
 pub finish-requires : goal.finish-requires
 finish-requires c =
-    let sound-new : Sound c.new.result =
+    let sound_new : Sound c.new.result =
     subst Sound (sym c.new.ensures) (sound_fresh _ c.requires.some_rate c.requires.rate_fits) in
-    subst Sound (sym c.absorb-taken.ensures) (sound_absorbed _ _ (sound-new))
+    subst Sound (sym c.absorb-taken.ensures) (sound_absorbed _ _ (sound_new))
 
 pub returns : goal.returns
 returns c =

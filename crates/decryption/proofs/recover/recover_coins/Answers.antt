@@ -16,28 +16,28 @@ use Rattle.decryption.proofs.recover.recover_coins.Goals as goal
 
 pub slice_bounds-shake-end : goal.slice_bounds-shake-end
 slice_bounds-shake-end c =
-    let need-is : c.length_of-need.result ≡ length_of c.args.p c.args.p.l (width c.args.p) =
+    let need_is : c.length_of-need.result ≡ length_of c.args.p c.args.p.l (width c.args.p) =
     c.length_of-need.ensures.0 ∙ ap (length_of c.args.p c.args.p.l) c.width.ensures in
     let room : c.length_of-need.result ≤ length c.args.work.now =
-    omega (arith, need-is, secret_fits c.args.p, c.requires.work_long) in
+    omega (arith, need_is, secret_fits c.args.p, c.requires.work_long) in
     room
 
 pub slice_bounds-shake-end-2 : goal.slice_bounds-shake-end-2
 slice_bounds-shake-end-2 c =
-    let need-is : c.length_of-need.result ≡ length_of c.args.p c.args.p.l (width c.args.p) =
+    let need_is : c.length_of-need.result ≡ length_of c.args.p c.args.p.l (width c.args.p) =
     c.length_of-need.ensures.0 ∙ ap (length_of c.args.p c.args.p.l) c.width.ensures in
     let room : c.length_of-need.result ≤ length c.args.work.now =
-    omega (arith, need-is, secret_fits c.args.p, c.requires.work_long) in
+    omega (arith, need_is, secret_fits c.args.p, c.requires.work_long) in
     let fresh : length (take c.length_of-need.result c.args.work.now) ≡ c.length_of-need.result =
     simp length-take (omega (arith, room)) in
     sym (fresh)
 
 pub slice_bounds-coins_from-end : goal.slice_bounds-coins_from-end
 slice_bounds-coins_from-end c =
-    let need-is : c.length_of-need.result ≡ length_of c.args.p c.args.p.l (width c.args.p) =
+    let need_is : c.length_of-need.result ≡ length_of c.args.p c.args.p.l (width c.args.p) =
     c.length_of-need.ensures.0 ∙ ap (length_of c.args.p c.args.p.l) c.width.ensures in
     let room : c.length_of-need.result ≤ length c.args.work.now =
-    omega (arith, need-is, secret_fits c.args.p, c.requires.work_long) in
+    omega (arith, need_is, secret_fits c.args.p, c.requires.work_long) in
     let same : length (c.shake.new.output ++ drop c.length_of-need.result c.args.work.now) ≡
     length c.args.work.now
     = first_same c.length_of-need.result c.shake.new.output c.args.work.now
@@ -46,10 +46,10 @@ slice_bounds-coins_from-end c =
 
 pub slice_bounds-coins_from-end-2 : goal.slice_bounds-coins_from-end-2
 slice_bounds-coins_from-end-2 c =
-    let need-is : c.length_of-need.result ≡ length_of c.args.p c.args.p.l (width c.args.p) =
+    let need_is : c.length_of-need.result ≡ length_of c.args.p c.args.p.l (width c.args.p) =
     c.length_of-need.ensures.0 ∙ ap (length_of c.args.p c.args.p.l) c.width.ensures in
     let room : c.length_of-need.result ≤ length c.args.work.now =
-    omega (arith, need-is, secret_fits c.args.p, c.requires.work_long) in
+    omega (arith, need_is, secret_fits c.args.p, c.requires.work_long) in
     let fresh : length (take c.length_of-need.result c.args.work.now) ≡ c.length_of-need.result =
     simp length-take (omega (arith, room)) in
     let stream_long : length c.shake.new.output ≡ c.length_of-need.result =
@@ -82,10 +82,10 @@ slice_bounds-coins_from-end-6 c =
 
 pub coins_from-requires : goal.coins_from-requires
 coins_from-requires c =
-    let need-is : c.length_of-need.result ≡ length_of c.args.p c.args.p.l (width c.args.p) =
+    let need_is : c.length_of-need.result ≡ length_of c.args.p c.args.p.l (width c.args.p) =
     c.length_of-need.ensures.0 ∙ ap (length_of c.args.p c.args.p.l) c.width.ensures in
     let room : c.length_of-need.result ≤ length c.args.work.now =
-    omega (arith, need-is, secret_fits c.args.p, c.requires.work_long) in
+    omega (arith, need_is, secret_fits c.args.p, c.requires.work_long) in
     let fresh : length (take c.length_of-need.result c.args.work.now) ≡ c.length_of-need.result =
     simp length-take (omega (arith, room)) in
     let stream_long : length c.shake.new.output ≡ c.length_of-need.result =
@@ -109,16 +109,16 @@ coins_from-requires c =
         value_long = simp length-take (omega (arith, W.short));
         sum = simp length-take (omega (arith, W.short));
       };
-      secret_there = rw (stream) (omega (arith, stream_long, need-is));
+      secret_there = rw (stream) (omega (arith, stream_long, need_is));
       coins_long = pre.coins_long;
     }
 
 pub returns : goal.returns
 returns c =
-    let need-is : c.length_of-need.result ≡ length_of c.args.p c.args.p.l (width c.args.p) =
+    let need_is : c.length_of-need.result ≡ length_of c.args.p c.args.p.l (width c.args.p) =
     c.length_of-need.ensures.0 ∙ ap (length_of c.args.p c.args.p.l) c.width.ensures in
     let room : c.length_of-need.result ≤ length c.args.work.now =
-    omega (arith, need-is, secret_fits c.args.p, c.requires.work_long) in
+    omega (arith, need_is, secret_fits c.args.p, c.requires.work_long) in
     let fresh : length (take c.length_of-need.result c.args.work.now) ≡ c.length_of-need.result =
     simp length-take (omega (arith, room)) in
     let stream_long : length c.shake.new.output ≡ c.length_of-need.result =
@@ -132,5 +132,5 @@ returns c =
     c.coins_from.ensures
     ∙ ap (λ (l : List ℕ). coins_from p l a.ct.now)
     (stream ∙ c.shake.ensures ∙
-    ap (shake p.rate a.gamma.now) (fresh ∙ need-is))
+    ap (shake p.rate a.gamma.now) (fresh ∙ need_is))
     ∙ coins_recovered p c.requires.well a.gamma.now a.ct.now

@@ -15,12 +15,12 @@ use Rattle.decryption.proofs.remainders.remainders.Goals as goal
 
 pub pack-requires : goal.pack-requires
 pack-requires c =
-    let values-long : length c.reduce.new.xs ≡ (c.args.p.l + 1) * c.args.p.n =
+    let values_long : length c.reduce.new.xs ≡ (c.args.p.l + 1) * c.args.p.n =
     c.reduce.auto.xs ∙ c.subtract_from.auto.xs ∙ c.requires.sums_long in
     let p = c.args.p in
     let W = c.requires.well in (
       rw c.width.ensures (width_bound p W),
-      rw c.width.ensures (vector_fills p W (p.l + 1) (width p) (values-long) c.requires.packed_long),
+      rw c.width.ensures (vector_fills p W (p.l + 1) (width p) (values_long) c.requires.packed_long),
     )
 
 pub returns : goal.returns

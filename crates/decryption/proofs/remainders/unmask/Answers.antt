@@ -55,11 +55,11 @@ slice_bounds-xor_into-end-2 c =
     simp length-take (omega (arith, c.padded-padded.ensures.0, c.requires.well.padded_fits)) in
     let packed_long : length c.remainders-fits.new.dst ≡ c.padded-padded.result =
     c.remainders-fits.auto.dst ∙ fresh in
-    let packed-is : take c.padded-padded.result (c.remainders-fits.new.dst ++ drop c.padded-padded.result c.bytes-packed.result) ≡
+    let packed_is : take c.padded-padded.result (c.remainders-fits.new.dst ++ drop c.padded-padded.result c.bytes-packed.result) ≡
     c.remainders-fits.new.dst =
     take_at c.remainders-fits.new.dst (drop c.padded-padded.result c.bytes-packed.result)
     c.padded-padded.result (packed_long) in
-    sym (ap length (packed-is) ∙ packed_long)
+    sym (ap length (packed_is) ∙ packed_long)
 
 pub xor_into-requires : goal.xor_into-requires
 xor_into-requires c =
@@ -70,11 +70,11 @@ xor_into-requires c =
     simp length-take (omega (arith, c.padded-padded.ensures.0, c.requires.well.padded_fits)) in
     let packed_long : length c.remainders-fits.new.dst ≡ c.padded-padded.result =
     c.remainders-fits.auto.dst ∙ fresh in
-    let packed-is : take c.padded-padded.result (c.remainders-fits.new.dst ++ drop c.padded-padded.result c.bytes-packed.result) ≡
+    let packed_is : take c.padded-padded.result (c.remainders-fits.new.dst ++ drop c.padded-padded.result c.bytes-packed.result) ≡
     c.remainders-fits.new.dst =
     take_at c.remainders-fits.new.dst (drop c.padded-padded.result c.bytes-packed.result)
     c.padded-padded.result (packed_long) in
-    rw (packed-is)
+    rw (packed_is)
     (omega (
       arith,
       packed_long,
@@ -85,7 +85,7 @@ pub returns : goal.returns
 returns c =
     let place : c.low-at.result + c.padded-padded.result ≤ length c.args.work.now =
     omega (arith, c.low-at.ensures.0, c.padded-padded.ensures.0, c.requires.work_long) in
-    let mask-part : take (c.low-at.result + c.padded-padded.result - c.low-at.result) (drop c.low-at.result c.args.work.now)
+    let mask_part : take (c.low-at.result + c.padded-padded.result - c.low-at.result) (drop c.low-at.result c.args.work.now)
     ≡ take (padded_length c.args.p) (drop (low_length c.args.p) c.args.work.now) =
     ap₂ (λ (i j : ℕ). take i (drop j c.args.work.now))
     (add-sub_cancel_left c.low-at.result c.padded-padded.result ∙ c.padded-padded.ensures.0) c.low-at.ensures.0 in
@@ -94,7 +94,7 @@ returns c =
     simp length-take (omega (arith, c.padded-padded.ensures.0, c.requires.well.padded_fits)) in
     let packed_long : length c.remainders-fits.new.dst ≡ c.padded-padded.result =
     c.remainders-fits.auto.dst ∙ fresh in
-    let packed-is : take c.padded-padded.result (c.remainders-fits.new.dst ++ drop c.padded-padded.result c.bytes-packed.result) ≡
+    let packed_is : take c.padded-padded.result (c.remainders-fits.new.dst ++ drop c.padded-padded.result c.bytes-packed.result) ≡
     c.remainders-fits.new.dst =
     take_at c.remainders-fits.new.dst (drop c.padded-padded.result c.bytes-packed.result)
     c.padded-padded.result (packed_long) in
@@ -105,5 +105,5 @@ returns c =
     let long : length ys ≡ k = c.xor_into.auto.dst ∙ part_length at k work (place) in (
       c.remainders-fits.ensures.0,
       rw (sym c.low-at.ensures.0, sym c.padded-padded.ensures.0) (part-put at k work ys (place) long) ∙
-          c.xor_into.ensures ∙ ap₂ xor_into (mask-part) (packed-is ∙ c.remainders-fits.ensures.1),
+          c.xor_into.ensures ∙ ap₂ xor_into (mask_part) (packed_is ∙ c.remainders-fits.ensures.1),
     )

@@ -17,20 +17,20 @@ slice_bounds-open_key-end c =
 
 pub slice_bounds-open_key-end-2 : goal.slice_bounds-open_key-end-2
 slice_bounds-open_key-end-2 c =
-    let long-2 : length (take c.parameters-p.result.coins c.zeros-d.result) ≡ c.parameters-p.result.coins =
+    let long_2 : length (take c.parameters-p.result.coins c.zeros-d.result) ≡ c.parameters-p.result.coins =
     coins_room _ c.zeros-d.result c.parameters-p.ensures.well (search rules) in
-    sym (long-2)
+    sym (long_2)
 
 pub open_key-opened-requires : goal.open_key-opened-requires
 open_key-opened-requires c =
     let long : length (take c.parameters-p.result.coins c.zeros-found.result) ≡ c.parameters-p.result.coins =
     coins_room _ c.zeros-found.result c.parameters-p.ensures.well (search rules) in
-    let long-2 : length (take c.parameters-p.result.coins c.zeros-d.result) ≡ c.parameters-p.result.coins =
+    let long_2 : length (take c.parameters-p.result.coins c.zeros-d.result) ≡ c.parameters-p.result.coins =
     coins_room _ c.zeros-d.result c.parameters-p.ensures.well (search rules) in
     let a = c.args in
     decaps_fits a.set _ a.sk.now a.ct.now a.key.now a.work.now _
     c.parameters-p.ensures.are c.status-status.ensures _ _ c.parameters-p.ensures.well c.if-status-ne0.false
-    (long) (long-2)
+    (long) (long_2)
 
 pub returns : goal.returns
 returns c = search decaps_exit

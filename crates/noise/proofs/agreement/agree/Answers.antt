@@ -16,24 +16,24 @@ use Rattle.noise.proofs.agreement.agree.Invariants.{Turns}
 use Rattle.noise.proofs.agreement.agree.Goals as goal
 
 -- It may be compared.
-next-room : {P : Params} {b stored : List ℕ} {v m values bytes at i : ℕ} {all : Bool} → Turns P b stored v m values bytes at i all → i < P.l
+next_room : {P : Params} {b stored : List ℕ} {v m values bytes at i : ℕ} {all : Bool} → Turns P b stored v m values bytes at i all → i < P.l
     → (StringRoom P P.k b i values) × (length (take (at + m - at) (drop at stored)) ≡ length_of P 1 (P.k - P.t))
     × (bytes ≡ length_of P 1 (P.k - P.t))
-next-room {P} {stored = stored} {m = m} {at = at} turns h =
+next_room {P} {stored = stored} {m = m} {at = at} turns h =
     let room = turns.room in (
       record {
         well = room.well;
         narrow = room.well.word;
         few = omega (arith, room.well.few);
         there = rw room.value_long (within P P.k h);
-        room_is = turns.values-long ∙ room.values_are;
+        room_is = turns.values_long ∙ room.values_are;
       },
       part_length at m stored (next_placed room turns.done h).fits ∙ room.bytes_are,
       turns.bytes_long ∙ room.bytes_are,
     )
 
 pub loop-i-init : goal.loop-i-init
-loop-i-init c = record { room = c.requires; values-long = refl; bytes_long = refl; done = compared_none _ _ _ }
+loop-i-init c = record { room = c.requires; values_long = refl; bytes_long = refl; done = compared_none _ _ _ }
 
 pub overflow_add-at : goal.overflow_add-at
 overflow_add-at c =
@@ -56,7 +56,7 @@ slice_bounds-polynomial_agrees-end c =
 pub polynomial_agrees-agrees-requires : goal.polynomial_agrees-agrees-requires
 polynomial_agrees-agrees-requires c =
     let h = c.loop-i.invariant in
-    next-room h (omega arith)
+    next_room h (omega arith)
 
 pub overflow_add-at-in-loop-i : goal.overflow_add-at-in-loop-i
 overflow_add-at-in-loop-i c =
@@ -75,7 +75,7 @@ loop-i-preserved c =
     let h = c.loop-i.invariant in
     record {
       room = h.room;
-      values-long = c.polynomial_agrees-agrees.auto.values ∙ h.values-long;
+      values_long = c.polynomial_agrees-agrees.auto.values ∙ h.values_long;
       bytes_long = c.polynomial_agrees-agrees.auto.dropped ∙ h.bytes_long;
       done = compared_more h.room h.done (omega arith) c.polynomial_agrees-agrees.ensures;
     }

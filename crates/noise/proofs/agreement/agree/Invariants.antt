@@ -13,7 +13,7 @@ use Rattle.noise.proofs.agreement.agree.Given as goal
 -- The arguments are as they were asked, the rooms keep their lengths, and i polynomials are compared.
 pub record Turns (P : Params) (b stored : List ℕ) (room-values room-bytes values bytes at i : ℕ) (all : Bool) : Type 0 where
   pub room : AgreementRoom P b stored room-values room-bytes
-  pub values-long : values ≡ room-values
+  pub values_long : values ≡ room-values
   pub bytes_long : bytes ≡ room-bytes
   pub done : Compared P b stored at i all
 

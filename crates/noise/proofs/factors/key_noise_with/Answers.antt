@@ -70,7 +70,7 @@ combine-requires c =
     let a = c.args in
     c.values-2.ensures ∙ ap (λ (w : ℕ). tabulate a.p.n (coefficient w a.p.n a.secrets.now (a.p.l + a.i)))
     c.width.ensures in
-    let low-are : c.reduce.new.xs ≡ tabulate c.args.p.n
+    let low_are : c.reduce.new.xs ≡ tabulate c.args.p.n
     (λ x. coefficient c.args.p.k c.args.p.n c.args.b.now c.args.i x % 2 ^ c.args.p.t) =
     let a = c.args in
     c.reduce.ensures ∙ low_table a.p.t a.p.n (coefficient a.p.k a.p.n a.b.now a.i)
@@ -81,7 +81,7 @@ combine-requires c =
     let W = pre.well in
     let w = values_are in
     let r = errors_are in
-    let low = low-are in
+    let low = low_are in
     record {
       well = W;
       first = ap length w ∙ length-tabulate p.n _ ∙ sym pre.room_is;
@@ -106,7 +106,7 @@ returns c =
     let a = c.args in
     c.values-2.ensures ∙ ap (λ (w : ℕ). tabulate a.p.n (coefficient w a.p.n a.secrets.now (a.p.l + a.i)))
     c.width.ensures in
-    let low-are : c.reduce.new.xs ≡ tabulate c.args.p.n
+    let low_are : c.reduce.new.xs ≡ tabulate c.args.p.n
     (λ x. coefficient c.args.p.k c.args.p.n c.args.b.now c.args.i x % 2 ^ c.args.p.t) =
     let a = c.args in
     c.reduce.ensures ∙ low_table a.p.t a.p.n (coefficient a.p.k a.p.n a.b.now a.i)
@@ -116,4 +116,4 @@ returns c =
     c.combine.ensures
     ∙ combined_table p p.n (coefficient p.t p.n a.stream.now a.i)
     (coefficient (width p) p.n a.secrets.now (p.l + a.i)) (λ x. coefficient p.k p.n a.b.now a.i x % 2 ^ p.t)
-    values_are errors_are low-are
+    values_are errors_are low_are

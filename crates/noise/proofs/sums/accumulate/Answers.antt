@@ -58,7 +58,7 @@ pub subtract_from-requires : goal.subtract_from-requires
 subtract_from-requires c =
     let sum_long : length c.add_errors.new.acc ≡ c.args.p.n =
     c.add_errors.auto.acc ∙ ap length c.requires.3 ∙ length-replicate c.args.p.n (pos 0) in
-    let errors-small : largest c.add_errors.new.acc ≤ 2 ^ 26 =
+    let errors_small : largest c.add_errors.new.acc ≤ 2 ^ 26 =
     let a = c.args in
     let p = a.p in
     let W = c.requires.0.well in
@@ -66,20 +66,20 @@ subtract_from-requires c =
     (drop c.low-at.result a.stream.now) in
     errors_size p.l p.n (noise_most p) p.p (small_in p mid) (small_in p a.secrets.now) c.requires.3 W.few (product_most p W)
     (error_sized p W mid) (small_sized p W a.secrets.now) c.add_errors.ensures in
-    let last-small : largest c.small.new.dst ≤ 64 =
+    let last_small : largest c.small.new.dst ≤ 64 =
     let p = c.args.p in
     let W = c.requires.0.well in
     rw c.small.ensures (le_trans (largest_table p.n p.p _ (small_sized p W _ _)) W.small_secrets) in (
       c.small.auto.dst ∙ c.add_errors.auto.x ∙ c.requires.1 ∙
           sym sum_long,
-      omega (arith, last-small, errors-small),
+      omega (arith, last_small, errors_small),
     )
 
 pub add_keys-requires : goal.add_keys-requires
 add_keys-requires c =
     let sum_long : length c.add_errors.new.acc ≡ c.args.p.n =
     c.add_errors.auto.acc ∙ ap length c.requires.3 ∙ length-replicate c.args.p.n (pos 0) in
-    let errors-small : largest c.add_errors.new.acc ≤ 2 ^ 26 =
+    let errors_small : largest c.add_errors.new.acc ≤ 2 ^ 26 =
     let a = c.args in
     let p = a.p in
     let W = c.requires.0.well in
@@ -87,7 +87,7 @@ add_keys-requires c =
     (drop c.low-at.result a.stream.now) in
     errors_size p.l p.n (noise_most p) p.p (small_in p mid) (small_in p a.secrets.now) c.requires.3 W.few (product_most p W)
     (error_sized p W mid) (small_sized p W a.secrets.now) c.add_errors.ensures in
-    let last-small : largest c.small.new.dst ≤ 64 =
+    let last_small : largest c.small.new.dst ≤ 64 =
     let p = c.args.p in
     let W = c.requires.0.well in
     rw c.small.ensures (le_trans (largest_table p.n p.p _ (small_sized p W _ _)) W.small_secrets) in
@@ -106,8 +106,8 @@ add_keys-requires c =
           rest-size (length c.add_errors.new.acc)
               c.small.new.dst c.add_errors.new.acc
               c.subtract_from.ensures,
-          last-small,
-          errors-small,
+          last_small,
+          errors_small,
         );
       },
       record {

@@ -81,9 +81,9 @@ slice_bounds-all_between-end c =
 
 pub overflow_sub-end : goal.overflow_sub-end
 overflow_sub-end c =
-    let quarter-is : to_z w32 (of_z w32 c.quarter-end.result) ≡ pos (modulus c.args.p / 4) =
+    let quarter_is : to_z w32 (of_z w32 c.quarter-end.result) ≡ pos (modulus c.args.p / 4) =
     to_z-of_z w32 c.quarter-end.result (record { sfits = c.quarter-end.type_inv }) ∙ c.quarter-end.ensures in
-    rw quarter-is (quarter_fits c.args.p c.requires.well)
+    rw quarter_is (quarter_fits c.args.p c.requires.well)
 
 pub slice_bounds-acc-end-3 : goal.slice_bounds-acc-end-3
 slice_bounds-acc-end-3 c =
@@ -120,13 +120,13 @@ returns c =
     noises_from c.args.p c.args.b.now c.args.coins.now c.args.streams.now =
     let a = c.args in
     c.accumulate.ensures ∙ streams_split a.p a.b.now a.coins.now a.streams.now c.secrets-secrets.ensures.0 in
-    let quarter-is : to_z w32 (of_z w32 c.quarter-end.result) ≡ pos (modulus c.args.p / 4) =
+    let quarter_is : to_z w32 (of_z w32 c.quarter-end.result) ≡ pos (modulus c.args.p / 4) =
     to_z-of_z w32 c.quarter-end.result (record { sfits = c.quarter-end.type_inv }) ∙ c.quarter-end.ensures in
     let a = c.args in
     let all = held ∙ noises_are in
     let end : ℤ = pos (modulus a.p / 4) in
     let low : to_z w32 (of_z w32 (pos 0 -ℤ end)) ≡ neg_ℤ end = to_z-of_z w32 (pos 0 -ℤ end) (quarter_fits a.p c.requires.well) ∙
     +ℤ_idl (neg_ℤ end) in (
-      c.all_between-clear.ensures ∙ rw (quarter-is, low) (ap (all_between (neg_ℤ end) end) all),
+      c.all_between-clear.ensures ∙ rw (quarter_is, low) (ap (all_between (neg_ℤ end) end) all),
       c.largest-largest.ensures ∙ ap largest all,
     )

@@ -7,24 +7,24 @@ use Rattle.hash.proofs.sponge.Sponge.finish.Goals as goal
 use Rattle.hash.proofs.sponge.Sponge.finish.Goals.{After-ready-t}
 
 -- The place and the rate of the ready sponge are within the string.
-ready-here : (c : After-ready-t) →
+ready_here : (c : After-ready-t) →
     Ready c.args.self c.ready-t.result
-ready-here c = is_ready_as _ _ c.requires c.ready-t.ensures
+ready_here c = is_ready_as _ _ c.requires c.ready-t.ensures
 
 pub overflow_sub-last : goal.overflow_sub-last
-overflow_sub-last c = omega (arith, ready-here (search))
+overflow_sub-last c = omega (arith, ready_here (search))
 
 pub bounds-bytes-at : goal.bounds-bytes-at
-bounds-bytes-at c = omega (arith, ready-here (search))
+bounds-bytes-at c = omega (arith, ready_here (search))
 
 pub bounds-bytes-at-2 : goal.bounds-bytes-at-2
-bounds-bytes-at-2 c = omega (arith, ready-here (search))
+bounds-bytes-at-2 c = omega (arith, ready_here (search))
 
 pub bounds-bytes-last : goal.bounds-bytes-last
-bounds-bytes-last c = omega (arith, ready-here (search))
+bounds-bytes-last c = omega (arith, ready_here (search))
 
 pub bounds-bytes-last-2 : goal.bounds-bytes-last-2
-bounds-bytes-last-2 c = omega (arith, ready-here (search))
+bounds-bytes-last-2 c = omega (arith, ready_here (search))
 
 pub returns : goal.returns
 returns c = finish_is c.args.self c.ready-t.result c.requires c.ready-t.ensures
