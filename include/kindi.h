@@ -131,7 +131,7 @@ KINDI_CHECK_STATUS uint32_t kindi_shake256(const uint8_t *input, size_t input_le
 #define KINDI_CHOOSE_MAX_COINS 8u
 
 /* The most bytes of stack that a call takes, its arguments and its return address included. */
-#define KINDI_STACK_LEN 18272u
+#define KINDI_STACK_LEN 18336u
 
 /*
  * What the calls return: 0 for success, otherwise the number of a refusal. A call of the scheme makes its checks

@@ -14,8 +14,8 @@ ROOT = Path(__file__).resolve().parents[1]
 CRATES = ROOT / "crates"
 CERTIFY = "docs/CERTIFY.md"
 
-# It begins with the commits between which the crates were brought to today's Rattle, a line each.
-COMMITS = "PORT.md"
+# They begin with commits, a line each: between which the crates were brought to today's Rattle and to its forms.
+COMMITS = {"PORT.md", "DESIGN-PASS.md"}
 
 # What speaks of the tree as it is now; the others have histories too.
 PRESENT = ["README.md", CERTIFY, "docs/SCHEME.md", "docs/PROMISES.md", "docs/WORK-AREAS.md"]
@@ -43,7 +43,7 @@ def text_of(name):
 
 def check_readers():
     for path in [ROOT / "README.md", *sorted((ROOT / "docs").rglob("*.md"))]:
-        if path.name == COMMITS:
+        if path.name in COMMITS:
             continue
         lines = path.read_text().splitlines()
         if len(lines) < 3 or not re.match(r"# \S", lines[0]) or not lines[2].startswith("For "):

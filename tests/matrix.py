@@ -15,28 +15,38 @@ from source import body, code, report
 # halves. Those of keccak are rows, states and tables of Keccak-f.
 ARRAYS = {
     "hash sponge.rt": {"[u8; 200]": "the sponge's string"},
-    "product halves.rt": {"[u16; 128]": "A: a sum of halves of a factor; sums; a row",
-                          "[u16; 256]": "A: a sum of halves of a factor; sums; a row", "[u16; 512]": "a row"},
-    "product lib.rt": {"[u16; 1024]": "the doubled row of the other factor"},
-    "product rows.rt": {"[u16; 64]": "A: a sum of halves of a factor; sums"},
-    "vectors lib.rt": {"[u16; 1536]": "a vector: r, b, s, or C_1 to C_l", "[u16; 2048]": "the sums of a ciphertext",
-                       "[u16; 512]": "A: a polynomial; P_i, w_i, h, D or V"},
-    "decryption remainders.rt": {"[u8; 1024]": "the packed remainders"},
-    "decryption_calls decrypt.rt": {"[u8; 64]": "coins, or a digest"},
-    "noise factors.rt": {"[u16; 512]": "values of w, of r', of b"},
-    "noise lib.rt": {"[u8; 1024]": "a stored polynomial"},
-    "noise sums.rt": {"[i16; 512]": "a factor of the noise", "[i32; 512]": "the noise"},
-    "noise_calls measure.rt": {"[u8; 3072]": "b"},
-    "ring poly.rt": {"[u16; 1024]": "the doubled row of a factor, in the ring's own product"},
-    "signed lib.rt": {"[i16; 1024]": "the doubled row of a factor of the noise"},
+    "packing lib.rt": {"[u16; 8]": "none: eight coefficients that are lent to be packed"},
+    "product halves.rt": {"[0; H]": "A: a sum of halves of a factor; sums", "[0; N]": "a row"},
+    "product lib.rt": {"[0; 1024]": "the doubled row of the other factor"},
+    "product rows.rt": {"[0; 64]": "sums"},
+    "keys lib.rt": {"[0u16; 512]": "A: a polynomial", "[0u16; 1536]": "a vector: r, b"},
+    "encryption lib.rt": {"[0u16; 512]": "A: a polynomial; P_i, w_i, h", "[0u16; 1536]": "a vector: s",
+                          "[0u16; 2048]": "the sums of a ciphertext"},
+    "decryption lib.rt": {"[0u16; 1536]": "a vector: s", "[0u16; 2048]": "the sums of a ciphertext"},
+    "decryption recover.rt": {"[0u16; 1536]": "a vector: r, or C_1 to C_l", "[0u16; 512]": "D or V"},
+    "decryption remainders.rt": {"[0u8; 1024]": "the packed remainders"},
+    "decryption_calls decaps.rt": {"[0; 64]": "coins, and a digest"},
+    "decryption_calls decrypt.rt": {"[0; 64]": "coins"},
+    "noise factors.rt": {"[0u16; 512]": "values of w, of r', of b"},
+    "noise lib.rt": {"[0u16; 512]": "values of b", "[0u8; 1024]": "a stored polynomial"},
+    "noise sums.rt": {"[0i16; 512]": "a factor of the noise", "[0i32; 512]": "the noise"},
+    "noise_calls choose.rt": {"[0; 3072]": "b"},
+    "noise_calls measure.rt": {"[0; 3072]": "b"},
+    "ring poly.rt": {"[0; 1024]": "the doubled row of a factor, in the ring's own product"},
+    "signed lib.rt": {"[0; 1024]": "the doubled row of a factor of the noise"},
 }
 
-# Where the rooms of vectors are taken.
+# The sizes that H and N, of which arrays of halves.rt are, stand for.
+SIZES = {"H": [64, 128, 256], "N": [128, 256, 512]}
+
+# Where rooms for coefficients modulo 2^16 are taken, and how long each is.
 ROOMS = {
-    "keys lib.rt": ["polynomial", "zeros", "zeros"],
-    "encryption lib.rt": ["polynomial", "polynomial", "zeros", "sums"],
-    "decryption lib.rt": ["zeros", "sums"],
-    "decryption recover.rt": ["zeros", "zeros", "polynomial", "polynomial"],
+    "keys lib.rt": ["512", "1536", "1536"],
+    "encryption lib.rt": ["512", "512", "1536", "2048"],
+    "decryption lib.rt": ["1536", "2048"],
+    "decryption recover.rt": ["1536", "1536", "512", "512"],
+    "noise lib.rt": ["512"],
+    "noise factors.rt": ["512"] * 6,
 }
 
 # Where a sponge is made, skipped or squeezed, and of what SHAKE is taken: nothing but matrix runs the stream of mu.
@@ -62,8 +72,8 @@ ONCE = [
     ("product lib.rt", "multiply_add", "double(b, &mut row[..end]);"),
     ("keys lib.rt", "public_vector", "let end = at + lengths::polynomial(p);"),
     ("keys lib.rt", "public_polynomials", "&mut a[..n],"),
-    ("encryption lib.rt", "add_noiseless_with", "let end = at + lengths::polynomial(p);"),
-    ("encryption lib.rt", "add_noiseless", "&mut f[..n],"),
+    ("encryption lib.rt", "add_noiseless", "let end = at + lengths::polynomial(p);"),
+    ("encryption lib.rt", "add_noiseless", "let f = &mut f[..n];"),
 ]
 
 # Changes of the source that hold more of A, or run its stream again, and meet every contract.
@@ -73,16 +83,19 @@ EVASIONS = [
     ("keys lib.rt", "fn read_secrets", "fn whole(n: usize)\n    -> [[u16; 512]; 9] { g() }\nfn read_secrets"),
     ("keys lib.rt", "fn read_secrets", "fn whole(n: usize) -> [u16; 4608]\n    ensures long { 4608 ≡ length result }\n"
      "{ g(n) }\nfn read_secrets"),
-    ("keys lib.rt", "    let mut r = vectors::zeros();", "    let mut r = vectors::zeros(); let mut w = vectors::sums();"),
+    ("keys lib.rt", "    let mut r = [0u16; 1536];", "    let mut r = [0u16; 1536]; let mut w = [0u16; 2048];"),
+    ("keys lib.rt", "    let mut r = [0u16; 1536];", "    let mut r = [0u16; 1536]; let mut w = [0u16; 1536];"),
     ("keys lib.rt", "    let end = at", "    hash::shake_from(p.rate, mu, 448, work);\n    let end = at"),
     ("keys lib.rt", "    let end = at", "    let end = at + 4032;\n    let end = at"),
     ("keys lib.rt", "&mut a[..n],", "&mut sums[..n],"),
     ("noise lib.rt", "    let secrets", "    hash::shake(p.rate, &sk[stored..public], &mut work[..4032]);\n    let secrets"),
+    ("product halves.rt", "by_halves::<256, 512, Halves>", "by_halves::<1024, 2048, Halves>"),
     ("encryption lib.rt", "use kindi::Params;", "use kindi::Params;\nuse hash::shake;"),
     ("encryption lib.rt", "use kindi::Params;", "use kindi::Params;\nuse matrix::add_product;"),
     ("matrix lib.rt", "let next = s.squeeze(bytes);", "let next = begin(p, mu).skip(at).squeeze(bytes);"),
     ("matrix lib.rt", "let next = s.squeeze(bytes);", "hash::shake_from(p.rate, mu, at, bytes); let next = s;"),
-    ("matrix lib.rt", "    while m < count {", "    while m < count {\n        s = begin(p, mu);"),
+    ("matrix lib.rt", "    for i in 0..p.l {", "    for i in 0..p.l {\n        s = begin(p, mu);"),
+    ("matrix lib.rt", "        for j in 0..p.l {", "        for j in 0..p.l {\n            s = begin(p, mu);"),
     ("matrix lib.rt", "let taken = Sponge::new(p.rate).absorb(mu);", "let s = Sponge::new(p.rate); let t = s.absorb(mu);"),
 ]
 
@@ -102,7 +115,7 @@ def wrongs(texts):
         text = code(text)
         seen = {
             "arrays": sorted(arrays_of(text)) if not place.startswith("keccak ") else [],
-            "rooms": re.findall(r"vectors::(zeros|sums|polynomial)\(\)", text),
+            "rooms": re.findall(r"\[0u16; (\d+)\]", text),
             "sponges": re.findall(r"Sponge::(new)\b|\.(skip|squeeze)\(", text) if place != "hash sponge.rt" else [],
             "streams": [f"{name}({rate}, {given.strip()})" for name, rate, given
                         in re.findall(r"(?<!fn )\b(shake(?:_from)?)\(\s*([\w.]+),\s*([^,]+),", text)],
@@ -113,7 +126,7 @@ def wrongs(texts):
         for kind, found in seen.items():
             if found:
                 kinds[kind][place] = found
-        for line in re.findall(r"^use (?:hash::shake\w*|matrix::\w+|vectors::(?:zeros|sums|polynomial));", text, re.M):
+        for line in re.findall(r"^use (?:hash::shake\w*|matrix::\w+);", text, re.M):
             yield f"{place}: {line}: it is called by its whole name"
     said = {"arrays": {place: sorted(rows) for place, rows in ARRAYS.items()}, "rooms": ROOMS, "sponges": SPONGES,
             "streams": STREAMS, "calls of add_product": USERS}
@@ -124,16 +137,20 @@ def wrongs(texts):
                 yield f"{place}: {kind}: {has}, and the list has {wants}"
     for place, rows in ARRAYS.items():
         for array, what in rows.items():
-            if what.startswith("A:") and int(re.search(r"; (\d+)\]", array).group(1)) > 512:
+            length = array.partition("; ")[2][:-1]
+            if what.startswith("A:") and max(SIZES[length] if length in SIZES else [int(length)]) > 512:
                 yield f"{place}: {array}: longer than a polynomial of A"
+    pairs = re.findall(r"by_halves::<(\w+), (\w+), ", code(texts["product halves.rt"]))
+    if sorted(pairs) != sorted((str(h), str(n)) for h, n in zip(SIZES["H"], SIZES["N"])):
+        yield f"product halves.rt: H and N: {pairs}, and the lists have {SIZES}"
     for place, name, line in ONCE:
         text = body(texts[place], name)
         head = line.partition("=")[0].strip() if line.startswith("let ") else line
         if text.count(line) != 1 or text.count(head + " =" if line.startswith("let ") else head) != 1:
             yield f"{place}: {name} has not once: {line}"
     walk = body(texts["matrix lib.rt"], "add_product")
-    if texts["matrix lib.rt"].count("begin(") != 2 or "begin(" in walk.partition("while ")[2]:
-        yield "matrix lib.rt: the stream is not begun once, before the loop"
+    if texts["matrix lib.rt"].count("begin(") != 2 or "begin(" in walk.partition("for ")[2]:
+        yield "matrix lib.rt: the stream is not begun once, before the loops"
 
 
 if __name__ == "__main__":

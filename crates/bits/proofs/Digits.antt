@@ -11,7 +11,7 @@ use lib.Count.{count_trailing_zeros}
 use lib.ListN.{length, get_or, take, drop, length-append, length-map}
 use lib.Seq.{take_at, drop_at}
 use lib.Pow.{pow-add, pow_pos, pow_mono, high, low, mod-pow-add, mod-mod-pow, field, shr-shr}
-use Rattle.keccak.specs.Lists.{tabulate, value, digits}
+use Rattle.keccak.specs.Lists.{tabulate, concat_map, value, digits}
 use Rattle.keccak.proofs.Entries.{tabulate_at}
 use Rattle.keccak.proofs.Parts.{length_digits}
 use Rattle.bits.specs.Bits.{bytes_for, pack, unpack, low_bits, Below, bit}
@@ -252,6 +252,19 @@ pack-append w a xs ys h e =
     (ap₂ ◌++◌
     (sym (digits_low 8 a (8 * a) (u + 2 ^ (8 * a) * v) (le_refl (8 * a))) ∙ ap (digits 8 a) (first_digit (8 * a) v small))
     (ap (digits 8 (bytes_for (w * length ys))) (later_digits (8 * a) v small)))
+
+below_alone : (w c : ℕ) → c < 2 ^ w → Below (2 ^ w) (c ∷ [])
+below_alone w c h zero = h
+below_alone w c h (suc i) = pow_pos w
+
+-- Coefficients of 16 bits are packed in two bytes each.
+pub packed_pairs : (cs : List ℕ) → Below (2 ^ 16) cs → concat_map (digits 8 2) cs ≡ pack 16 cs
+unfolding concat_map pack value digits
+packed_pairs [] h = refl
+packed_pairs (c ∷ cs) h =
+    let alone : c ≡ c + 2 ^ 16 * 0 = omega arith in
+    ap₂ ◌++◌ (ap (digits 8 2) alone) (packed_pairs cs (λ i. h (suc i)))
+    ∙ sym (pack-append 16 2 (c ∷ []) cs (below_alone 16 c (h zero)) refl)
 
 -- ---- bit by bit
 

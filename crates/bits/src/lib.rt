@@ -1,7 +1,7 @@
 // Bit strings (01, "Bits and streams"): the width of coefficients, their low bits, and two bytes a coefficient.
 #![tactic(auto)]
 
-ghost use Rattle.std.specs.Prelude.{◌≡◌, ◌+◌, ◌*◌, ◌%◌, ◌^◌, ◌≤◌, length};
+ghost use Rattle.std.specs.Prelude.{◌≡◌, cond, ◌*◌, ◌%◌, ◌^◌, ◌≤◌, length};
 ghost use Rattle.std.specs.Int.Count.{count_trailing_zeros};
 ghost use Rattle.bits.specs.Bits.{pack, unpack, low_bits};
 
@@ -20,22 +20,21 @@ pub fn low_bits(c: u32, w: u32) -> u16
     (c & ((1 << w) - 1)) as u16
 }
 
+// One of two values.
+pub fn select<T: Copy>(first: bool, a: T, b: T) -> T
+    ensures { result ≡ cond first a b }
+{
+    if first { a } else { b }
+}
+
 // Each coefficient modulo 2^w.
 pub fn reduce(xs: &mut [u16], w: u32)
     requires { w ≤ 16 }
     ensures { xs.new ≡ low_bits w xs.old }
 {
-    let mut k = 0;
-    while k < xs.len() {
-        xs[k] = low_bits(xs[k] as u32, w);
-        k += 1;
+    for x in xs.iter_mut() {
+        *x = low_bits(u32::from(*x), w);
     }
-}
-
-fn pair(low: u8, high: u8) -> u16
-    ensures { result ≡ low + 2 ^ 8 * high }
-{
-    low as u16 + 256 * (high as u16)
 }
 
 // Loads coefficients that are stored in two bytes each.
@@ -43,10 +42,9 @@ pub fn load(src: &[u8], dst: &mut [u16])
     requires { length src.now ≡ 2 * length dst.old }
     ensures { dst.new ≡ unpack 16 (length dst.old) src.now }
 {
-    let mut i = 0;
-    while i < dst.len() {
-        dst[i] = pair(src[2 * i], src[2 * i + 1]);
-        i += 1;
+    // By place: a proof does not know what was written through `iter_mut().zip(..)`.
+    for (i, c) in dst.iter_mut().enumerate() {
+        *c = u16::from_le_bytes([src[2 * i], src[2 * i + 1]]);
     }
 }
 
@@ -55,11 +53,8 @@ pub fn store(src: &[u16], dst: &mut [u8])
     requires { length dst.old ≡ 2 * length src.now }
     ensures { dst.new ≡ pack 16 src.now }
 {
-    let mut i = 0;
-    while i < src.len() {
-        let c = src[i];
-        dst[2 * i] = (c % 256) as u8;
-        dst[2 * i + 1] = (c / 256) as u8;
-        i += 1;
+    // By place: a proof does not know what was written through `chunks_exact_mut`.
+    for (i, c) in src.iter().enumerate() {
+        dst[2 * i..2 * i + 2].copy_from_slice(&c.to_le_bytes());
     }
 }

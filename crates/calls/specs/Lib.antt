@@ -1,2 +1,3 @@
 -- What the contracts of `calls` say.
 pub mod Exits
+pub mod Refusals

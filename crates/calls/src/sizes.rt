@@ -4,7 +4,6 @@ ghost use Rattle.kindi.specs.Params.{WellFormed, public_length, secret_length, k
 
 use kindi::Params;
 use vectors::lengths;
-use vectors::lengths::larger;
 
 pub fn public_key(p: Params) -> usize
     requires { WellFormed p }
@@ -24,21 +23,21 @@ pub fn keygen_work(p: Params) -> usize
     requires { WellFormed p }
     ensures { result ≡ keygen_work p }
 {
-    larger(lengths::secrets(p), lengths::polynomial(p))
+    lengths::secrets(p).max(lengths::polynomial(p))
 }
 
 pub fn encrypt_work(p: Params) -> usize
     requires { WellFormed p }
     ensures { (result ≡ encrypt_work p) × (result ≤ 262144) }
 {
-    larger(lengths::coins_stream(p), lengths::polynomial(p))
+    lengths::coins_stream(p).max(lengths::polynomial(p))
 }
 
 pub fn decrypt_work(p: Params) -> usize
     requires { WellFormed p }
     ensures { result ≡ decrypt_work p }
 {
-    let behind = larger(lengths::high(p) + lengths::rest(p), lengths::polynomial(p));
+    let behind = (lengths::high(p) + lengths::rest(p)).max(lengths::polynomial(p));
     lengths::low(p) + lengths::padded(p) + behind
 }
 

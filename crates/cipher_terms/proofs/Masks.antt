@@ -77,14 +77,15 @@ low_there P W S rest below long i x h l =
     ∙ coefficient-append P.t P.n first (drop (low_length P) S) i x bytes room))
 
 -- What `masked_stream` leaves.
-pub masked_made : (P : Params) (coins message : List ℕ) (a k : ℕ) {N : ℕ} {S ys : List ℕ} → a ≡ low_length P → k ≡ padded_length P
-    → N ≡ coins_stream_length P → S ≡ shake P.rate coins N → ys ≡ xor_into (take (a + k - a) (drop a S)) (message ++ (1 ∷ []))
-    → patched a (a + k - a) ys S ≡ patched (low_length P) (padded_length P) (masked P coins message) (coins_stream P coins)
+pub masked_made : (P : Params) (coins message : List ℕ) (a e : ℕ) {N : ℕ} {S ys : List ℕ} → a ≡ low_length P
+    → e ≡ low_length P + padded_length P
+    → N ≡ coins_stream_length P → S ≡ shake P.rate coins N → ys ≡ xor_into (take (e - a) (drop a S)) (message ++ (1 ∷ []))
+    → patched a (e - a) ys S ≡ patched (low_length P) (padded_length P) (masked P coins message) (coins_stream P coins)
 unfolding coins_stream mask
-masked_made P coins message a k {N} {S} {ys} ea ek en es ey =
+masked_made P coins message a e {N} {S} {ys} ea ee en es ey =
     let stream : S ≡ coins_stream P coins = es ∙ ap (shake P.rate coins) en in
-    let back : a + k - a ≡ padded_length P = add-sub_cancel_left a k ∙ ek in
-    let there : take (a + k - a) (drop a S) ≡ mask P coins = ap₂ take back (ap₂ drop ea stream) in
+    let back : e - a ≡ padded_length P = ap₂ ◌-◌ ee ea ∙ add-sub_cancel_left (low_length P) (padded_length P) in
+    let there : take (e - a) (drop a S) ≡ mask P coins = ap₂ take back (ap₂ drop ea stream) in
     let part : ys ≡ masked P coins message = ey ∙ ap (λ (l : List ℕ). xor_into l (message ++ (1 ∷ []))) there ∙ masked_is P coins message in
     ap₂ (λ (i j : ℕ). patched i j ys S) ea back ∙ ap₂ (patched (low_length P) (padded_length P)) part stream
 

@@ -7,7 +7,7 @@ use native.Mathlib.Numerals.{add-one}
 use native.Mathlib.Omega.{arith}
 use borrow.Author.Tests.{le-ltb}
 use lib.IntN.{ℤ, pos, ◌+ℤ◌, +ℤ_idl}
-use lib.ListN.{length, get_or, take, drop}
+use lib.ListN.{length, take, drop}
 use lib.Seq.{get_or-take, get_or-drop}
 use Rattle.keccak.proofs.Parts.{take_rest}
 use Rattle.bits.specs.Bits.{Below}
@@ -44,14 +44,16 @@ module _ (P : Params) (pk low s d : List ℕ) where
       ∙ residues_ext 65536 P.n (of_nats d) _ (λ x _. sym (+ℤ_idl (of_nats d x)))
 
   -- A turn adds one more.
-  pub products_more : (i at : ℕ) {ys f zs : List ℕ} → length ys ≡ P.n → at ≡ i * P.n → ys ≡ with_products P pk low s i d
-      → f ≡ residues 65536 P.n (decompressed_by P pk (low_in P low) i) → zs ≡ with_product ys f (take (at + P.n - at) (drop at s))
+  pub products_more : (i : ℕ) {ys f zs : List ℕ} → length ys ≡ P.n → ys ≡ with_products P pk low s i d
+      → f ≡ residues 65536 P.n (decompressed_by P pk (low_in P low) i)
+      → zs ≡ with_product ys f (take (i * P.n + P.n - i * P.n) (drop (i * P.n) s))
       → zs ≡ with_products P pk low s (i + 1) d
   unfolding with_products dot sum
-  products_more i at {ys} {f} {zs} long ea isY isF isZ =
+  products_more i {ys} {f} {zs} long isY isF isZ =
       let n : ℕ = P.n in
       let F : ℕ → Poly = decompressed_by P pk (low_in P low) in
       let before : Poly = plus (dot i n F (parts n s)) (of_nats d) in
+      let at : ℕ = i * n in
       let part : List ℕ = take (at + n - at) (drop at s) in
       rw (add-one i)
       (isZ ∙ ap (λ (m : ℕ). residues 65536 m (plus (of_nats ys) (mul m (of_nats f) (of_nats part)))) long
@@ -61,7 +63,7 @@ module _ (P : Params) (pk low s d : List ℕ) where
       (cong_trans (cong_of_eq (ap (λ (xs : List ℕ). of_nats xs x) isY)) (of_nats-residues (suc-le-suc zero-le) n before l))
       (mul_cong n (of_nats f) (F i) (of_nats part) (parts n s i)
       (λ y q. cong_trans (cong_of_eq (ap (λ (xs : List ℕ). of_nats xs y) isF)) (of_nats-residues (suc-le-suc zero-le) n (F i) q))
-      (λ y q. cong_of_eq (ap pos (get_or-take (at + n - at) (drop at s) y 0 (omega arith) ∙ get_or-drop at s y 0 ∙ ap (λ (m : ℕ). get_or s (m + y) 0) ea)))
+      (λ y q. cong_of_eq (ap pos (get_or-take (at + n - at) (drop at s) y 0 (omega arith) ∙ get_or-drop at s y 0)))
       l))
       (cong_of_eq (moved (dot i n F (parts n s) x) (mul n (F i) (parts n s i) x) (of_nats d x)))))
     where
@@ -71,19 +73,19 @@ module _ (P : Params) (pk low s d : List ℕ) where
 -- ---- D without its errors
 
 -- What `add_public` leaves, from the parts of the stream that it reads.
-pub public_exit : {P : Params} {pk coins stream f w s d : List ℕ} (a k h : ℕ) {s' d' : List ℕ} → TermsRoom P pk coins stream f w s d
-    → a ≡ low_length P → k ≡ padded_length P → h ≡ high_length P
+pub public_exit : {P : Params} {pk coins stream f w s d : List ℕ} (e h : ℕ) {s' d' : List ℕ} → TermsRoom P pk coins stream f w s d
+    → e ≡ low_length P + padded_length P → h ≡ high_length P
     → s' ≡ vector P.l P.n (ephemeral_by P coins
-    (take (length stream - (a + k)) (drop (a + k) stream)) (take (length stream - (a + k + h)) (drop (a + k + h) stream)))
+    (take (length stream - e) (drop e stream)) (take (length stream - (e + h)) (drop (e + h) stream)))
     → d' ≡ with_products P pk stream s' P.l d → TermsExit P pk coins d s' d'
 unfolding with_products noiseless ephemeral
-public_exit {P} {pk} {coins} {stream} {f} {w} {s} {d} a k h {s'} {d'} room ea ek eh isS isD =
+public_exit {P} {pk} {coins} {stream} {f} {w} {s} {d} e h {s'} {d'} room ee eh isS isD =
     let n : ℕ = P.n in
     let has : StreamOf P coins stream = room.stream_there in
-    let high : take (length stream - (a + k)) (drop (a + k) stream) ≡ _
-    = take_rest (a + k) stream ∙ ap (λ (i : ℕ). drop i stream) (ap₂ ◌+◌ ea ek) ∙ there_high has in
-    let rest : take (length stream - (a + k + h)) (drop (a + k + h) stream) ≡ _
-    = take_rest (a + k + h) stream ∙ ap (λ (i : ℕ). drop i stream) (ap₂ ◌+◌ (ap₂ ◌+◌ ea ek) eh) ∙ there_rest has in
+    let high : take (length stream - e) (drop e stream) ≡ _
+    = take_rest e stream ∙ ap (λ (i : ℕ). drop i stream) ee ∙ there_high has in
+    let rest : take (length stream - (e + h)) (drop (e + h) stream) ≡ _
+    = take_rest (e + h) stream ∙ ap (λ (i : ℕ). drop i stream) (ap₂ ◌+◌ ee eh) ∙ there_rest has in
     let secret : s' ≡ vector P.l n (ephemeral P coins)
     = isS ∙ ap₂ (λ (x y : List ℕ). vector P.l n (ephemeral_by P coins x y)) high rest in
     let first : (i x : ℕ) → i < P.l → x < n → Cong 65536 (decompressed_by P pk (low_in P stream) i x) (factor P pk coins P.l i x)

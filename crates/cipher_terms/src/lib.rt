@@ -20,13 +20,7 @@ fn add_constant(f: &mut [u16], c: u16)
     requires { 0 < length f.old }
     ensures { f.new ≡ with_constant c f.old }
 {
-    f[0] = ((f[0] as u32 + c as u32) % 65536) as u16;
-}
-
-fn or_zero(there: bool, c: u16) -> u16
-    ensures { result ≡ cond there c 0 }
-{
-    if there { c } else { 0 }
+    f[0] = f[0].wrapping_add(c);
 }
 
 // g for the first polynomial of P, 0 for the others.
@@ -34,7 +28,7 @@ fn constant(p: Params, i: usize) -> u16
     requires { WellFormed p }
     ensures { result ≡ cond (eqb i 0) (half p) 0 }
 {
-    or_zero(i == 0, vectors::power(p.k - 1))
+    bits::select(i == 0, vectors::power(p.k - 1), 0)
 }
 
 // P_i: 2^t times stored polynomial i, plus w_i, and g at the constant of the first; w has room for w_i.
@@ -80,7 +74,7 @@ pub fn add_padded(message: &[u8], dst: &mut [u8])
 {
     let end = message.len();
     keccak::strings::xor_into(dst, message);
-    dst[end] = dst[end] ^ 1;
+    dst[end] ^= 1;
 }
 
 // The stream of the coins, in which the message is masked.
@@ -88,10 +82,8 @@ pub fn masked_stream(p: Params, coins: &[u8], message: &[u8], stream: &mut [u8])
     requires { (WellFormed p) × (length message.now < padded_length p) × (length stream.old ≡ coins_stream_length p) }
     ensures { stream.new ≡ patched (low_length p) (padded_length p) (masked p coins.now message.now) (coins_stream p coins.now) }
 {
-    let at = lengths::low(p);
-    let end = at + lengths::padded(p);
     hash::shake(p.rate, coins, stream);
-    add_padded(message, &mut stream[at..end]);
+    add_padded(message, &mut stream[lengths::mask(p)]);
 }
 
 // Adds the sum of P_i·s_i to d, polynomial by polynomial; f and w have room for one.
@@ -108,13 +100,10 @@ fn add_products(
     ensures { d.new ≡ with_products p pk.now low.now s.now p.l d.old }
 {
     let n = p.n;
-    let mut at = 0;
-    let mut i = 0;
-    while i < p.l {
+    for i in 0..p.l {
+        let at = i * n;
         decompress(p, pk, low, i, w, f);
         product::multiply_add(d, f, &s[at..at + n]);
-        at += n;
-        i += 1;
     }
 }
 
@@ -133,7 +122,7 @@ pub fn add_public(
     requires { TermsRoom p pk.now coins.now stream.now f.old w.old s.old d.old }
     ensures { TermsExit p pk.now coins.now d.old s.new d.new }
 {
-    let end = lengths::low(p) + lengths::padded(p);
+    let end = lengths::mask(p).end;
     let rest = end + lengths::high(p);
     ephemeral(p, coins, &stream[end..], &stream[rest..], w, s);
     add_products(p, pk, stream, s, f, w, d);

@@ -1,13 +1,11 @@
--- What remains of a ciphertext, read off ℓ + 1 sums, and whether it fits. Assumes nothing.
-use mathlib.Core.Path.{◌≡◌, refl, sym, ap, ap₂, ◌∙◌}
-use mathlib.Core.Bool.{Bool, true, false, ◌&&◌}
-use mathlib.Core.List.{List, [], ◌∷◌, ◌++◌}
-use Prim.Native.Nat.{ℕ, suc, ◌+◌, ◌*◌, ◌<◌}
-use lib.Dec.{ltb}
+-- What remains of a ciphertext, read off ℓ + 1 sums. Assumes nothing.
+use mathlib.Core.Path.{◌≡◌, refl, ap, ap₂, ◌∙◌}
+use mathlib.Core.Bool.{Bool}
+use mathlib.Core.List.{List}
+use Prim.Native.Nat.{ℕ, ◌+◌, ◌*◌}
 use lib.IntN.{ℤ, pos, ◌+ℤ◌, ◌-ℤ◌}
-use lib.ListN.{length, get_or, take, drop}
+use lib.ListN.{length, take, drop}
 use lib.Pow.{pow_pos}
-use lib.Seq.{take-suc}
 use Rattle.keccak.specs.Strings.{xor_into}
 use Rattle.bits.specs.Bits.{pack, low_bits}
 use Rattle.ring.specs.Integers.{Cong}
@@ -20,7 +18,7 @@ use Rattle.kindi.specs.declared.Params.{Params}
 use Rattle.kindi.specs.Params.{WellFormed, width, low_length, padded_length}
 use Rattle.kindi.specs.Keys.{public_part}
 use Rattle.kindi.specs.Encrypt.{noiseless}
-use Rattle.kindi.specs.Decrypt.{cipher_part, remainder, remainders, all_below, errors_fit}
+use Rattle.kindi.specs.Decrypt.{cipher_part, remainder, remainders, errors_fit}
 use Rattle.vectors.specs.Vectors.{vector}
 use Rattle.vectors.proofs.Congruent.{vector_low}
 use Rattle.vectors.proofs.Joining.{joined_same}
@@ -71,25 +69,3 @@ open_exit P W sk ct coins work work' {sums} {taken} {fits} made same fit padded 
       fits_is = fit ∙ ap (errors_fit P.p) left;
       padded_is = padded ∙ ap₂ (λ (m us : List ℕ). xor_into m (pack (width P) (low_bits (width P) us))) made.mask_is left;
     }
-
--- ---- whether it fits
-
-and-true : (b : Bool) → b && true ≡ b
-and-true true = refl
-and-true false = refl
-
-and_assoc : (a b c : Bool) → (a && b) && c ≡ a && (b && c)
-and_assoc true b c = refl
-and_assoc false b c = refl
-
-all_below-append : (b : ℕ) (xs ys : List ℕ) → all_below b (xs ++ ys) ≡ all_below b xs && all_below b ys
-unfolding all_below
-all_below-append b [] ys = refl
-all_below-append b (x ∷ xs) ys = ap (λ (t : Bool). ltb x b && t) (all_below-append b xs ys) ∙ sym (and_assoc (ltb x b) (all_below b xs) (all_below b ys))
-
--- One entry more.
-pub below_more : (b : ℕ) (xs : List ℕ) (i : ℕ) → i < length xs → all_below b (take (suc i) xs) ≡ all_below b (take i xs) && ltb (get_or xs i 0) b
-unfolding all_below
-below_more b xs i h =
-    ap (all_below b) (take-suc xs i 0 h) ∙ all_below-append b (take i xs) (get_or xs i 0 ∷ [])
-    ∙ ap (λ (t : Bool). all_below b (take i xs) && t) (and-true (ltb (get_or xs i 0) b))

@@ -7,7 +7,7 @@ use native.Mathlib.Nat.{add-sub_cancel_left}
 use native.Mathlib.Omega.{arith}
 use lib.IntN.{ℤ, pos, ◌+ℤ◌, ◌-ℤ◌}
 use lib.ListN.{length, get_or, take, drop, length-take, take-append-drop}
-use lib.Seq.{take-take, take_at, drop_at}
+use lib.Seq.{take-take, take_at}
 use Rattle.keccak.specs.Lists.{patched}
 use Rattle.hash.specs.Shake.{shake}
 use Rattle.hash.proofs.Laws.{length-shake}
@@ -39,12 +39,6 @@ part_of_first e zero k xs h = sym (take-take k e xs (omega arith))
 part_of_first zero (suc a) k xs h = absurd (omega arith)
 part_of_first (suc e) (suc a) k [] h = refl
 part_of_first (suc e) (suc a) k (x ∷ xs) h = part_of_first e a k xs (omega arith)
-
--- A part that was put into a slice.
-pub part-put : (a k : ℕ) (xs ys : List ℕ) → a + k ≤ length xs → length ys ≡ k → take k (drop a (patched a (a + k - a) ys xs)) ≡ ys
-part-put a k xs ys h e =
-    ap (λ (j : ℕ). take k (drop a (patched a j ys xs))) (add-sub_cancel_left a k)
-    ∙ ap (take k) (drop_at (take a xs) (ys ++ drop k (drop a xs)) a (simp length-take (omega arith))) ∙ take_at ys (drop k (drop a xs)) k e
 
 -- A part put where it was.
 patched_self : (a k : ℕ) (xs : List ℕ) → patched a k (take k (drop a xs)) xs ≡ xs

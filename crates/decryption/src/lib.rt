@@ -28,7 +28,7 @@ fn sums_less_cipher(
     ensures { SumsExit p pk.now ct.now coins.now work.new sums.new }
 {
     let stream = lengths::coins_stream(p);
-    let end = lengths::low(p) + lengths::padded(p);
+    let end = lengths::mask(p).end;
     hash::shake(p.rate, coins, &mut work[..stream]);
     packing::unpack(p.k, ct, sums);
     ring::poly::subtract_from(0, sums);
@@ -47,7 +47,7 @@ pub fn recover_coins(p: Params, sk: &[u8], ct: &[u8], coins: &mut [u8], work: &m
 }
 
 // Leaves the padded message that a ciphertext has with these coins in the mask's place of the work area, and answers
-// whether every error fits.
+// whether every error fits: no Result, on which a caller would branch before the outcome is decided.
 pub fn open(p: Params, sk: &[u8], ct: &[u8], coins: &[u8], work: &mut [u8]) -> bool
     requires { OpenRoom p sk.now ct.now coins.now work.old }
     ensures { OpenExit p sk.now ct.now coins.now result work.new }
@@ -55,8 +55,8 @@ pub fn open(p: Params, sk: &[u8], ct: &[u8], coins: &[u8], work: &mut [u8]) -> b
     let public = lengths::stored(p) + p.seed;
     let vector = p.l * p.n;
     let all = encryption::coefficients(p);
-    let mut s = vectors::zeros();
-    let mut sums = vectors::sums();
+    let mut s = [0u16; 1536];
+    let mut sums = [0u16; 2048];
     sums_less_cipher(
         p,
         &sk[..public],

@@ -26,17 +26,15 @@ fn rounded(v: u16, k: u32) -> u16
     requires { (2 ≤ k) × (k ≤ 16) }
     ensures { result ≡ rounded_bit (2 ^ k) v }
 {
-    (((v as u32 + vectors::power(k - 2) as u32) >> (k - 1)) % 2) as u16
+    (((u32::from(v) + u32::from(vectors::power(k - 2))) >> (k - 1)) % 2) as u16
 }
 
 fn round(xs: &mut [u16], k: u32)
     requires { (2 ≤ k) × (k ≤ 16) }
     ensures { xs.new ≡ map (rounded_bit (2 ^ k)) xs.old }
 {
-    let mut i = 0;
-    while i < xs.len() {
-        xs[i] = rounded(xs[i], k);
-        i += 1;
+    for x in xs.iter_mut() {
+        *x = rounded(*x, k);
     }
 }
 
@@ -68,10 +66,10 @@ pub fn recover_coins(p: Params, gamma: &[u8], ct: &[u8], coins: &mut [u8], work:
     let n = p.n;
     let vector = p.l * n;
     let need = lengths::length_of(p, p.l, lengths::width(p));
-    let mut r = vectors::zeros();
-    let mut f = vectors::zeros();
-    let mut d = vectors::polynomial();
-    let mut v = vectors::polynomial();
+    let mut r = [0u16; 1536];
+    let mut f = [0u16; 1536];
+    let mut d = [0u16; 512];
+    let mut v = [0u16; 512];
     hash::shake(p.rate, gamma, &mut work[..need]);
     coins_from(
         p,

@@ -10,25 +10,15 @@ ghost use Rattle.decryption.specs.Inputs.{RemaindersRoom, UnmaskRoom};
 use kindi::Params;
 use vectors::lengths;
 
-fn bytes() -> [u8; 1024] {
-    [0; 1024]
-}
-
 // Whether every entry is below a bound; all are read.
 fn all_below(xs: &[u16], bound: u16) -> bool
     ensures { result ≡ all_below bound xs.now }
 {
-    let mut all = true;
-    let mut i = 0;
-    while i < xs.len() {
-        let x = xs[i];
-        all = all & (x < bound);
-        i += 1;
-    }
-    all
+    xs.iter().fold(true, |all, x| all & (*x < bound))
 }
 
-// The remainders, p less the sums, packed, and whether all of them fit. They take the place of the sums.
+// The remainders, p less the sums, packed, and whether all of them fit. They take the place of the sums. The answer is no Result,
+// on which a caller would branch before the outcome is decided.
 fn remainders(p: Params, sums: &mut [u16], dst: &mut [u8]) -> bool
     requires { RemaindersRoom p sums.old dst.old }
     ensures { (result ≡ errors_fit p.p (remainders_from p sums.old))
@@ -40,7 +30,7 @@ fn remainders(p: Params, sums: &mut [u16], dst: &mut [u8]) -> bool
     all_below(sums, 2 * p.p)
 }
 
-// Adds the remainders to the mask in the work area, modulo 2; whether all of them fit.
+// Adds the remainders to the mask in the work area, modulo 2; whether all of them fit, as a Boolean for the same reason.
 pub fn unmask(p: Params, sums: &mut [u16], work: &mut [u8]) -> bool
     requires { UnmaskRoom p sums.old work.old }
     ensures { (result ≡ errors_fit p.p (remainders_from p sums.old))
@@ -48,11 +38,9 @@ pub fn unmask(p: Params, sums: &mut [u16], work: &mut [u8]) -> bool
         ≡ xor_into (take (padded_length p) (drop (low_length p) work.old))
         (pack (width p) (low_bits (width p) (remainders_from p sums.old)))) }
 {
-    let at = lengths::low(p);
     let padded = lengths::padded(p);
-    let end = at + padded;
-    let mut packed = bytes();
+    let mut packed = [0u8; 1024];
     let fits = remainders(p, sums, &mut packed[..padded]);
-    keccak::strings::xor_into(&mut work[at..end], &packed[..padded]);
+    keccak::strings::xor_into(&mut work[lengths::mask(p)], &packed[..padded]);
     fits
 }

@@ -59,25 +59,6 @@ pub ending_none : (c : List ℕ) → ending (take 0 c) ≡ ending_of c 0 0
 unfolding ending ending_of
 ending_none c = refl
 
--- ---- zeros
-
-and_assoc : (a b c : Bool) → a && (b && c) ≡ (a && b) && c
-and_assoc true b c = refl
-and_assoc false b c = refl
-
-and-true : (a : Bool) → a && true ≡ a
-and-true true = refl
-and-true false = refl
-
--- One byte more.
-zero_end : (xs : List ℕ) (b : ℕ) → all_zero (xs ++ (b ∷ [])) ≡ all_zero xs && eqb b 0
-unfolding all_zero
-zero_end [] b = and-true (eqb b 0)
-zero_end (x ∷ xs) b = ap (λ (t : Bool). eqb x 0 && t) (zero_end xs b) ∙ and_assoc (eqb x 0) (all_zero xs) (eqb b 0)
-
-pub zero_next : (c : List ℕ) (i : ℕ) → i < length c → all_zero (take (suc i) c) ≡ all_zero (take i c) && eqb (get_or c i 0) 0
-zero_next c i h = ap all_zero (take-suc c i 0 h) ∙ zero_end (take i c) (get_or c i 0)
-
 -- ---- comparison
 
 -- Two tests that hold at the same time are the same.

@@ -1,16 +1,21 @@
 -- The two exits of each call: what the code knows of its parameters, its status and what the inner function leaves gives what
 -- the call ensures; and before that, what the inner function asks. Assumes nothing.
-use mathlib.Core.Path.{◌≡◌, sym, ◌∙◌}
+use mathlib.Core.Path.{◌≡◌, refl, sym, ◌∙◌}
 use mathlib.Core.List.{List}
 use Prim.Native.Nat.{ℕ}
 use native.Mathlib.Omega.{arith}
 use lib.ListN.{length, take}
 use lib.Seq.{length-take-le}
+use Rattle.std.specs.Prelude.{Result}
+use Rattle.std.specs.Result.{IsErrAnd}
+use Rattle.calls.specs.declared.refusal.Refusal.{Refusal}
+use Rattle.calls.specs.Refusals.{number_of, status_of, value_of}
 use Rattle.kindi.specs.declared.Params.{Params}
-use Rattle.kindi.specs.Params.{WellFormed, of_set, decrypt_work}
+use Rattle.kindi.specs.Params.{WellFormed, Parameters, of_set, decrypt_work}
 use Rattle.kindi.specs.Calls.{work_after, decrypt_call, decaps_call}
 use Rattle.calls.proofs.Ends.{wiped_any}
 use Rattle.calls.proofs.Checked.{Checked, refused_number, refused_output, refused_returned}
+use Rattle.calls.proofs.Refused.{refused_status, refused_value, refusal_not_0}
 use Rattle.decryption_calls.specs.Status.{decrypt_status, decaps_status}
 use Rattle.decryption_calls.specs.Fitting.{decrypt_fitting, decaps_fitting, MessageRoom, MessageExit, KeyRoom, KeyExit}
 use Rattle.decryption_calls.specs.Exits.{DecryptExit, DecapsExit}
@@ -22,35 +27,39 @@ coins_room P room w l = length-take-le P.coins room (omega (arith, w.coin_bits, 
 
 -- ---- decrypt
 
-module _ (set : ℕ) (P : Params) (sk ct coins message work : List ℕ) (status : ℕ) (are : P ≡ of_set set)
-    (is : status ≡ decrypt_status set P (length sk) (length ct) (length coins) (length message) (length work)) where
-  -- What the status says of the answer.
-  decrypt_behind : Checked (decrypt_call set sk ct (length coins) (length message) (length work)) (decrypt_fitting P sk ct) status
-  decrypt_behind = rw (is, are) (decrypt-checked set sk ct (length coins) (length message) (length work))
+module _ {set : ℕ} {P : Params} (sk ct coins message work : List ℕ) (p : Parameters set P) where
+  -- What the checks say of the answer.
+  decrypt_behind : {s : ℕ} → s ≡ decrypt_status set P (length sk) (length ct) (length coins) (length message) (length work)
+      → Checked (decrypt_call set sk ct (length coins) (length message) (length work)) (decrypt_fitting P sk ct) s
+  decrypt_behind is = rw (is, p.are) (decrypt-checked set sk ct (length coins) (length message) (length work))
 
   -- The exit of a refusal by the lengths.
-  pub decrypt_refused : {need : ℕ} {work' : List ℕ} → (status ≡ 0 → ⊥) → need ≡ decrypt_work P → work' ≡ work_after set need work
-      → DecryptExit set sk ct coins message work status coins message 0 work'
-  decrypt_refused bad n w =
-      let refused = decrypt_behind.refuses bad in
+  pub decrypt_refused : {A : Type 0} (f : A → ℕ) (r : Result A Refusal) (e : Refusal)
+      → number_of e ≡ decrypt_status set P (length sk) (length ct) (length coins) (length message) (length work)
+      → IsErrAnd r (λ g. g ≡ e)
+      → DecryptExit set sk ct coins message work (status_of r) coins message (value_of f r) (work_after set (decrypt_work (of_set set)) work)
+  decrypt_refused f r e is passed =
+      let refused = (decrypt_behind is).refuses (refusal_not_0 e) in
       record {
-        number_is = refused_number refused;
+        number_is = refused_status r e passed ∙ refused_number refused;
         coins_are = refused_output _ coins refused;
         message_is = refused_output _ message refused;
-        length_is = refused_returned _ refused;
-        wiped = rw (n, are) at w;
+        length_is = sym (refused_value f r e passed) ∙ refused_returned _ refused;
+        wiped = refl;
       }
 
-  decrypt_long : status ≡ 0 → DecryptLengths set P (length sk) (length ct) (length coins) (length message) (length work)
-  decrypt_long e = decrypt_lengths set P (length sk) (length ct) (length coins) (length message) (length work) (sym is ∙ e)
+  decrypt_long : 0 ≡ decrypt_status set P (length sk) (length ct) (length coins) (length message) (length work)
+      → DecryptLengths set P (length sk) (length ct) (length coins) (length message) (length work)
+  decrypt_long is = decrypt_lengths set P (length sk) (length ct) (length coins) (length message) (length work) (sym is)
 
-  -- Where it is 0, the inner function may be called.
-  pub decrypt_fits : (found : List ℕ) → WellFormed P → status ≡ 0 → length found ≡ P.coins → MessageRoom P sk ct found coins message work
-  decrypt_fits found well e l =
-      let long = decrypt_long e in
+  -- Where no check refuses, the inner function may be called.
+  pub decrypt_fits : (found : List ℕ) → 0 ≡ decrypt_status set P (length sk) (length ct) (length coins) (length message) (length work)
+      → length found ≡ P.coins → MessageRoom P sk ct found coins message work
+  decrypt_fits found is l =
+      let long = decrypt_long is in
       record {
         room = record {
-          well = well;
+          well = p.well;
           secret_long = long.secret_long;
           cipher_long = long.cipher_long;
           coins_long = l;
@@ -61,47 +70,49 @@ module _ (set : ℕ) (P : Params) (sk ct coins message work : List ℕ) (status 
       }
 
   -- The exit after the inner function, which leaves `left` in the work area.
-  pub decrypt_exit : {need s : ℕ} (left : List ℕ) {coins' message' : List ℕ} {len' : ℕ} {work' : List ℕ} → status ≡ 0
-      → MessageExit (decrypt_fitting P sk ct) coins message s coins' message' len'
-      → need ≡ decrypt_work P → length left ≡ length work → work' ≡ work_after set need left
-      → DecryptExit set sk ct coins message work s coins' message' len' work'
-  decrypt_exit {need} left e made n l w =
-      let long = decrypt_long e in
-      let answer = decrypt_behind.goes_on e in
+  pub decrypt_exit : {s : ℕ} (left : List ℕ) {coins' message' : List ℕ} {len' : ℕ}
+      → 0 ≡ decrypt_status set P (length sk) (length ct) (length coins) (length message) (length work)
+      → MessageExit (decrypt_fitting P sk ct) coins message s coins' message' len' → length left ≡ length work
+      → DecryptExit set sk ct coins message work s coins' message' len' (work_after set (decrypt_work (of_set set)) left)
+  decrypt_exit left is made l =
+      let long = decrypt_long is in
+      let answer = (decrypt_behind is).goes_on refl in
       record {
         number_is = rw answer made.number_is;
         coins_are = rw answer made.coins_are;
         message_is = rw answer made.message_is;
         length_is = rw answer made.length_is;
-        wiped = w ∙ wiped_any set need left work long.there (rw n long.work_long) l ∙ rw (n, are);
+        wiped = wiped_any set _ left work long.there (rw (← p.are) long.work_long) l;
       }
 
 -- ---- decaps
 
-module _ (set : ℕ) (P : Params) (sk ct key work : List ℕ) (status : ℕ) (are : P ≡ of_set set)
-    (is : status ≡ decaps_status set P (length sk) (length ct) (length key) (length work)) where
-  -- What the status says of the answer.
-  decaps_behind : Checked (decaps_call set sk ct (length key) (length work)) (decaps_fitting P sk ct) status
-  decaps_behind = rw (is, are) (decaps-checked set sk ct (length key) (length work))
+module _ {set : ℕ} {P : Params} (sk ct key work : List ℕ) (p : Parameters set P) where
+  -- What the checks say of the answer.
+  decaps_behind : {s : ℕ} → s ≡ decaps_status set P (length sk) (length ct) (length key) (length work)
+      → Checked (decaps_call set sk ct (length key) (length work)) (decaps_fitting P sk ct) s
+  decaps_behind is = rw (is, p.are) (decaps-checked set sk ct (length key) (length work))
 
   -- The exit of a refusal by the lengths.
-  pub decaps_refused : {need : ℕ} {work' : List ℕ} → (status ≡ 0 → ⊥) → need ≡ decrypt_work P → work' ≡ work_after set need work
-      → DecapsExit set sk ct key work status key work'
-  decaps_refused bad n w =
-      let refused = decaps_behind.refuses bad in
-      record { number_is = refused_number refused; key_is = refused_output _ key refused; wiped = rw (n, are) at w }
+  pub decaps_refused : {A : Type 0} (r : Result A Refusal) (e : Refusal)
+      → number_of e ≡ decaps_status set P (length sk) (length ct) (length key) (length work) → IsErrAnd r (λ g. g ≡ e)
+      → DecapsExit set sk ct key work (status_of r) key (work_after set (decrypt_work (of_set set)) work)
+  decaps_refused r e is passed =
+      let refused = (decaps_behind is).refuses (refusal_not_0 e) in
+      record { number_is = refused_status r e passed ∙ refused_number refused; key_is = refused_output _ key refused; wiped = refl }
 
-  decaps_long : status ≡ 0 → DecapsLengths set P (length sk) (length ct) (length key) (length work)
-  decaps_long e = decaps_lengths set P (length sk) (length ct) (length key) (length work) (sym is ∙ e)
+  decaps_long : 0 ≡ decaps_status set P (length sk) (length ct) (length key) (length work)
+      → DecapsLengths set P (length sk) (length ct) (length key) (length work)
+  decaps_long is = decaps_lengths set P (length sk) (length ct) (length key) (length work) (sym is)
 
-  -- Where it is 0, the inner function may be called.
-  pub decaps_fits : (found d : List ℕ) → WellFormed P → status ≡ 0 → length found ≡ P.coins → length d ≡ P.coins
-      → KeyRoom P sk ct found d key work
-  decaps_fits found d well e l m =
-      let long = decaps_long e in
+  -- Where no check refuses, the inner function may be called.
+  pub decaps_fits : (found d : List ℕ) → 0 ≡ decaps_status set P (length sk) (length ct) (length key) (length work)
+      → length found ≡ P.coins → length d ≡ P.coins → KeyRoom P sk ct found d key work
+  decaps_fits found d is l m =
+      let long = decaps_long is in
       record {
         room = record {
-          well = well;
+          well = p.well;
           secret_long = long.secret_long;
           cipher_long = long.cipher_long;
           coins_long = l;
@@ -112,15 +123,14 @@ module _ (set : ℕ) (P : Params) (sk ct key work : List ℕ) (status : ℕ) (ar
       }
 
   -- The exit after the inner function, which leaves `left` in the work area.
-  pub decaps_exit : {need s : ℕ} (left : List ℕ) {key' work' : List ℕ} → status ≡ 0
-      → KeyExit (decaps_fitting P sk ct) key s key'
-      → need ≡ decrypt_work P → length left ≡ length work → work' ≡ work_after set need left
-      → DecapsExit set sk ct key work s key' work'
-  decaps_exit {need} left e made n l w =
-      let long = decaps_long e in
-      let answer = decaps_behind.goes_on e in
+  pub decaps_exit : {s : ℕ} (left : List ℕ) {key' : List ℕ} → 0 ≡ decaps_status set P (length sk) (length ct) (length key) (length work)
+      → KeyExit (decaps_fitting P sk ct) key s key' → length left ≡ length work
+      → DecapsExit set sk ct key work s key' (work_after set (decrypt_work (of_set set)) left)
+  decaps_exit left is made l =
+      let long = decaps_long is in
+      let answer = (decaps_behind is).goes_on refl in
       record {
         number_is = rw answer made.number_is;
         key_is = rw answer made.key_is;
-        wiped = w ∙ wiped_any set need left work long.there (rw n long.work_long) l ∙ rw (n, are);
+        wiped = wiped_any set _ left work long.there (rw (← p.are) long.work_long) l;
       }

@@ -1,17 +1,22 @@
 // The call of decryption (01: opening).
 ghost use Rattle.std.specs.Prelude.{◌≡◌};
-ghost use Rattle.kindi.specs.Params.{WellFormed};
+ghost use Rattle.calls.specs.Refusals.{status_of, value_of};
+ghost use Rattle.kindi.specs.Params.{WellFormed, Parameters, of_set, decrypt_work};
+ghost use Rattle.kindi.specs.Calls.{work_after};
 ghost use Rattle.decryption_calls.specs.Status.{decrypt_status};
 ghost use Rattle.decryption_calls.specs.Fitting.{decrypt_fitting, MessageRoom, MessageExit};
 ghost use Rattle.decryption_calls.specs.Exits.{DecryptExit};
 
 use crate::padding;
+use bits::select;
+use calls::refusal::Refusal;
 use calls::{checks, sizes, work};
 use kindi::Params;
 use vectors::lengths;
 
-// The status, from the set and the lengths alone.
-fn status(
+// The checks, of the set and the lengths alone.
+#[tactic(auto, using(calls::proofs::Refused::refusals), unfolding(crate::specs::Status::decrypt_status))]
+fn check(
     set: u32,
     p: Params,
     sk: usize,
@@ -19,24 +24,20 @@ fn status(
     coins: usize,
     message: usize,
     work: usize,
-) -> u32
+) -> Result<(), Refusal>
     requires { WellFormed p }
-    ensures { result ≡ decrypt_status set p sk ct coins message work }
+    ensures { status_of result ≡ decrypt_status set p sk ct coins message work }
 {
-    let r = checks::refuse_if(work < sizes::decrypt_work(p), 4, 0);
-    let r = checks::refuse_if(message != lengths::padded(p) - 1, 4, r);
-    let r = checks::refuse_if(coins != p.coins, 4, r);
-    let r = checks::refuse_if(ct != lengths::ciphertext(p), 2, r);
-    let r = checks::refuse_if(sk != sizes::secret_key(p), 2, r);
-    checks::refuse_if(!checks::is_set(set), 1, r)
+    checks::require(checks::is_set(set), Refusal::NoSuchSet)?;
+    checks::require(sk == sizes::secret_key(p), Refusal::WrongInputLen)?;
+    checks::require(ct == lengths::ciphertext(p), Refusal::WrongInputLen)?;
+    checks::require(coins == p.coins, Refusal::WrongOutputLen)?;
+    checks::require(message == lengths::padded(p) - 1, Refusal::WrongOutputLen)?;
+    checks::require(work >= sizes::decrypt_work(p), Refusal::WrongOutputLen)
 }
 
-// Room for the coins that are found.
-pub fn zeros() -> [u8; 64] {
-    [0; 64]
-}
-
-// Decrypts where the lengths fit. The coins that are found stay apart until nothing is refused.
+// Decrypts where the lengths fit, and gives the message's length. The coins that are found stay apart until nothing is refused.
+// The one branch on what is found is on both tests.
 fn open_message(
     p: Params,
     sk: &[u8],
@@ -44,12 +45,11 @@ fn open_message(
     found: &mut [u8],
     coins: &mut [u8],
     message: &mut [u8],
-    message_len: &mut usize,
     work: &mut [u8],
-) -> u32
+) -> Result<usize, Refusal>
     requires { MessageRoom p sk.now ct.now found.old coins.old message.old work.old }
     ensures { MessageExit (decrypt_fitting p sk.now ct.now) coins.old message.old
-        result coins.new message.new message_len.new }
+        (status_of result) coins.new message.new (value_of (λ len. len) result) }
 {
     decryption::recover_coins(p, sk, ct, found, work);
     let fits = decryption::open(p, sk, ct, found, work);
@@ -57,34 +57,29 @@ fn open_message(
     let end = at + lengths::padded(p);
     let ended = padding::ending(&work[at..end]);
     let len = ended.len;
-    let unmarked = checks::refuse_if(ended.mark != 1, 6, 0);
-    let outcome = checks::refuse_if(!fits, 5, unmarked);
-    if outcome != 0 {
-        *message_len = 0;
-        return outcome;
-    }
-    keccak::strings::copy(coins, found);
+    let marked = ended.mark == 1;
+    let refusal = select(fits, Refusal::WrongPadding, Refusal::ErrorTooLarge);
+    checks::require(fits & marked, refusal)?;
+    coins.copy_from_slice(found);
     padding::write_message(&work[at..at + len], message);
-    *message_len = len;
-    0
+    Ok(len)
 }
 
-// Decrypts a ciphertext with a secret key.
-pub fn decrypt(
+// The call without the wiping of its work area, which its contract takes as done.
+fn decrypt_unwiped(
     set: u32,
+    p: Params,
     sk: &[u8],
     ct: &[u8],
     coins: &mut [u8],
     message: &mut [u8],
-    message_len: &mut usize,
     work: &mut [u8],
-) -> u32
+) -> Result<usize, Refusal>
+    requires { Parameters set p }
     ensures { DecryptExit set sk.now ct.now coins.old message.old
-        work.old result coins.new message.new message_len.new work.new }
+        work.old (status_of result) coins.new message.new (value_of (λ len. len) result) (work_after set (decrypt_work (of_set set)) work.new) }
 {
-    let p = kindi::parameters(set);
-    let need = sizes::decrypt_work(p);
-    let status = status(
+    check(
         set,
         p,
         sk.len(),
@@ -92,24 +87,26 @@ pub fn decrypt(
         coins.len(),
         message.len(),
         work.len(),
-    );
-    if status != 0 {
-        *message_len = 0;
-        work::finish(set, need, work);
-        return status;
-    }
-    let mut found = zeros();
+    )?;
+    let mut found = [0; 64];
     let k = p.coins;
-    let opened = open_message(
-        p,
-        sk,
-        ct,
-        &mut found[..k],
-        coins,
-        message,
-        message_len,
-        work,
-    );
-    work::finish(set, need, work);
-    opened
+    open_message(p, sk, ct, &mut found[..k], coins, message, work)
+}
+
+// Decrypts a ciphertext with a secret key, and gives the message's length.
+pub fn decrypt(
+    set: u32,
+    sk: &[u8],
+    ct: &[u8],
+    coins: &mut [u8],
+    message: &mut [u8],
+    work: &mut [u8],
+) -> Result<usize, Refusal>
+    ensures { DecryptExit set sk.now ct.now coins.old message.old
+        work.old (status_of result) coins.new message.new (value_of (λ len. len) result) work.new }
+{
+    let p = kindi::parameters(set);
+    let answer = decrypt_unwiped(set, p, sk, ct, coins, message, work);
+    work::finish(set, sizes::decrypt_work(p), work);
+    answer
 }

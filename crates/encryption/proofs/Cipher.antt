@@ -18,11 +18,11 @@ use Rattle.kindi.specs.Encrypt.{masked, error, noiseless, ciphertext}
 use Rattle.kindi.proofs.Padding.{length-masked}
 use Rattle.vectors.specs.Vectors.{vector}
 use Rattle.vectors.proofs.Amounts.{width_bound, reads}
-use Rattle.vectors.proofs.Congruent.{vector_near, vector_low, length-vector}
+use Rattle.vectors.proofs.Congruent.{vector_near, vector_low}
 use Rattle.vectors.proofs.Reading.{small-vector, vector_cong}
 use Rattle.cipher_terms.specs.Inputs.{StreamOf}
 use Rattle.cipher_terms.proofs.Masks.{length_stream, there_long}
-use Rattle.encryption.specs.Inputs.{NoiselessRoom, ErrorsRoom, EncryptRoom}
+use Rattle.encryption.specs.Inputs.{ErrorsRoom, EncryptRoom}
 use Rattle.encryption.specs.Errors.{ErrorsExit}
 use Rattle.encryption.specs.Noiseless.{NoiselessExit}
 
@@ -38,53 +38,37 @@ part_of_first a k ys xs zs inside long =
 module _ {P : Params} {message errors work : List ℕ} (room : ErrorsRoom P message errors work) (coins : List ℕ) {r : ℕ} {ys : List ℕ}
     (er : r ≡ coins_stream_length P) (is : ys ≡ patched (low_length P) (padded_length P) (masked P coins message) (coins_stream P coins)) where
   -- The masked message lies in it.
-  masked_there : (a k : ℕ) → a ≡ low_length P → k ≡ padded_length P → take (a + k - a) (drop a (ys ++ drop r work)) ≡ masked P coins message
-  masked_there a k ea ek =
-      ap (λ (i : ℕ). take i (drop a (ys ++ drop r work))) (add-sub_cancel_left a k)
-      ∙ ap₂ (λ (i j : ℕ). take i (drop j (ys ++ drop r work))) ek ea
+  masked_there : (a e : ℕ) → a ≡ low_length P → e ≡ low_length P + padded_length P → take (e - a) (drop a (ys ++ drop r work)) ≡ masked P coins message
+  masked_there a e ea ee =
+      ap₂ (λ (i j : ℕ). take i (drop j (ys ++ drop r work))) (ap₂ ◌-◌ ee ea ∙ add-sub_cancel_left (low_length P) (padded_length P)) ea
       ∙ ap (λ (l : List ℕ). take (padded_length P) (drop (low_length P) (l ++ drop r work))) is
       ∙ part_of_first (low_length P) (padded_length P) (masked P coins message) (coins_stream P coins) (drop r work)
       (omega (arith, length_stream P coins)) (length-masked P coins message)
 
   -- The errors are read within its bytes.
-  pub errors_read : (a k : ℕ) {w : ℕ} → a ≡ low_length P → k ≡ padded_length P → w ≡ width P
-      → (w ≤ 16) × (w * length errors ≤ 8 * length (take (a + k - a) (drop a (ys ++ drop r work))))
-  errors_read a k ea ek ew =
-      let fits : padded_length P ≤ length (take (a + k - a) (drop a (ys ++ drop r work)))
-      = omega (arith, ap length (masked_there a k ea ek) ∙ length-masked P coins message) in
+  pub errors_read : (a e : ℕ) {w : ℕ} → a ≡ low_length P → e ≡ low_length P + padded_length P → w ≡ width P
+      → (w ≤ 16) × (w * length errors ≤ 8 * length (take (e - a) (drop a (ys ++ drop r work))))
+  errors_read a e ea ee ew =
+      let fits : padded_length P ≤ length (take (e - a) (drop a (ys ++ drop r work)))
+      = omega (arith, ap length (masked_there a e ea ee) ∙ length-masked P coins message) in
       (rw ew (width_bound P room.well), rw ew (reads P room.well (P.l + 1) (width P) room.errors_long fits))
 
   -- What `read_errors` leaves.
-  pub errors_exit : (a k : ℕ) {w : ℕ} {es : List ℕ} → a ≡ low_length P → k ≡ padded_length P → w ≡ width P
-      → es ≡ centred_words P.p (unpack w (length errors) (take (a + k - a) (drop a (ys ++ drop r work))))
+  pub errors_exit : (a e : ℕ) {w : ℕ} {es : List ℕ} → a ≡ low_length P → e ≡ low_length P + padded_length P → w ≡ width P
+      → es ≡ centred_words P.p (unpack w (length errors) (take (e - a) (drop a (ys ++ drop r work))))
       → ErrorsExit P coins message es (ys ++ drop r work)
   unfolding error
-  errors_exit a k ea ek ew isE =
+  errors_exit a e ea ee ew isE =
       let U : List ℕ = masked P coins message in
       let has : StreamOf P coins ys = record { inside = U; inside_long = length-masked P coins message; stream_is = is } in
       record {
         errors_are = isE
-            ∙ ap₂ (λ (v : ℕ) (l : List ℕ). centred_words P.p (unpack v (length errors) l)) ew (masked_there a k ea ek)
+            ∙ ap₂ (λ (v : ℕ) (l : List ℕ). centred_words P.p (unpack v (length errors) l)) ew (masked_there a e ea ee)
             ∙ ap (λ (m : ℕ). centred_words P.p (unpack (width P) m U)) room.errors_long ∙ small-vector (P.l + 1) P.n (width P) P.p U;
         stream = rw (take_at ys (drop r work) (coins_stream_length P) (there_long has)) has;
       }
 
 module _ {P : Params} {pk coins message ct work : List ℕ} (room : EncryptRoom P pk coins message ct work) where
-  -- What `add_noiseless` takes.
-  pub noiseless_room : {work1 s errors : List ℕ} → length work1 ≡ length work → ErrorsExit P coins message errors work1
-      → length s ≡ P.l * P.n → NoiselessRoom P pk coins 0 work1 s errors
-  noiseless_room lw exit ls =
-      record {
-        well = room.well;
-        public_long = room.public_long;
-        coins_long = room.coins_long;
-        stream_fits = omega (arith, lw, room.work_long);
-        stream = exit.stream;
-        polynomial_fits = omega (arith, lw, room.work_long);
-        secret_long = ls;
-        sums_long = ap length exit.errors_are ∙ length-vector (P.l + 1) P.n (error P coins message);
-      }
-
   -- What encryption leaves: a ciphertext without its errors is added to the errors, and the sums are packed.
   pub encrypt_exit : {errors work1 work2 sums dst : List ℕ} → ErrorsExit P coins message errors work1
       → NoiselessExit P pk coins 0 work1 errors work2 sums → dst ≡ pack P.k (low_bits P.k sums) → dst ≡ ciphertext P pk coins message

@@ -8,7 +8,7 @@ use native.Mathlib.Numerals.{add-one}
 use native.Mathlib.Omega.{arith}
 use borrow.Author.Tests.{lt-ltb}
 use lib.IntN.{ℤ, pos, ◌+ℤ◌}
-use lib.ListN.{length, length-append, take, drop, length-take}
+use lib.ListN.{length, take, drop, length-take}
 use lib.Seq.{take_at, drop_at, get_or-take, get_or-drop}
 use Rattle.keccak.specs.Lists.{patched}
 use Rattle.keccak.proofs.Parts.{patched-rest, take_rest}
@@ -16,19 +16,16 @@ use Rattle.ring.specs.Poly.{Poly, plus, dot, transposed, of_nats, parts, residue
 use Rattle.ring.proofs.Modular.{cong_of_eq}
 use Rattle.ring.proofs.Residues.{residues_ext}
 use Rattle.kindi.specs.declared.Params.{Params}
-use Rattle.kindi.specs.Params.{stored_length, polynomial_length, coins_stream_length}
+use Rattle.kindi.specs.Params.{stored_length}
 use Rattle.kindi.specs.Streams.{matrix, ephemeral}
 use Rattle.kindi.specs.Keys.{joined, matrix_seed}
 use Rattle.kindi.specs.Encrypt.{factor, noiseless}
 use Rattle.kindi.proofs.Strings.{place_below}
 use Rattle.vectors.specs.Vectors.{vector}
-use Rattle.vectors.proofs.Amounts.{part_length}
-use Rattle.vectors.proofs.Congruent.{vector_near, length-vector}
-use Rattle.vectors.proofs.Joining.{rest_is}
+use Rattle.vectors.proofs.Congruent.{vector_near}
 use Rattle.vectors.proofs.Reading.{vector_cong}
-use Rattle.matrix.specs.Product.{ProductRoom, with_matrix}
+use Rattle.matrix.specs.Product.{with_matrix}
 use Rattle.matrix.proofs.Replaced.{product_of}
-use Rattle.cipher_terms.specs.Inputs.{TermsRoom}
 use Rattle.cipher_terms.specs.Terms.{TermsExit}
 use Rattle.encryption.specs.Inputs.{NoiselessRoom}
 use Rattle.encryption.specs.Noiseless.{NoiselessExit}
@@ -60,45 +57,7 @@ module _ {P : Params} {pk coins : List ℕ} {at : ℕ} {work s sums : List ℕ} 
   sums_size : P.l * P.n + P.n ≡ length sums
   sums_size = sym (room.sums_long ∙ add-mul P.l 1 P.n ∙ ap (λ (k : ℕ). P.l * P.n + k) (one-mul P.n))
 
-  -- The first ℓ sums once the last is replaced.
-  pub firsts_long : (d : List ℕ) → P.l * P.n ≡ length (take (P.l * P.n) (patched (P.l * P.n) (length sums - P.l * P.n) d sums))
-  firsts_long d =
-      let inside : P.l * P.n ≤ length sums = omega (arith, sums_size) in
-      sym (ap length (first_kept (P.l * P.n) sums d inside) ∙ first_size (P.l * P.n) sums d inside)
-
-  pub firsts_inside : (d : List ℕ) → P.l * P.n ≤ length (patched (P.l * P.n) (length sums - P.l * P.n) d sums)
-  firsts_inside d =
-      let inside : P.l * P.n ≤ length sums = omega (arith, sums_size) in
-      rw (patched-rest (P.l * P.n) d sums, length-append (take (P.l * P.n) sums) d, first_size (P.l * P.n) sums d inside) (omega arith)
-
-  -- What `add_public` takes.
-  pub terms_room : {r : ℕ} {f w : List ℕ} → r ≡ coins_stream_length P → length f ≡ P.n → length w ≡ P.n
-      → TermsRoom P pk coins (take r work) f w s (take (length sums - P.l * P.n) (drop (P.l * P.n) sums))
-  terms_room e lf lw =
-      record {
-        well = room.well;
-        stored_there = omega (arith, room.public_long);
-        coins_long = room.coins_long;
-        stream_there = rw e room.stream;
-        list_long = lf;
-        low_long = lw;
-        secret_long = room.secret_long;
-        sum = rest_is (P.l * P.n) P.n sums sums_size;
-      }
-
   module _ {s' d : List ℕ} (terms : TermsExit P pk coins (take (length sums - P.l * P.n) (drop (P.l * P.n) sums)) s' d) where
-    -- What `add_product` takes.
-    pub product_room : {m : ℕ} {a : List ℕ} → m ≡ polynomial_length P → length a ≡ P.n
-        → ProductRoom P s' (take (at + m - at) (drop at work)) a (take (P.l * P.n) (patched (P.l * P.n) (length sums - P.l * P.n) d sums))
-    product_room {m} e la =
-        record {
-          well = room.well;
-          vector_long = ap length terms.secret_is ∙ length-vector P.l P.n (ephemeral P coins);
-          bytes_long = part_length at m work (omega (arith, room.polynomial_fits)) ∙ e;
-          list_long = la;
-          sums_long = sym (firsts_long d);
-        }
-
     -- What `add_noiseless` leaves.
     pub noiseless_exit : (a m : ℕ) (bytes : List ℕ) {c : List ℕ} → a ≡ stored_length P
         → c ≡ with_matrix P (take (length pk - a) (drop a pk)) true s'

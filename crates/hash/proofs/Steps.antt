@@ -11,7 +11,7 @@ use native.Mathlib.Omega.{arith}
 use borrow.Author.Tests.{eq-eqb, ne_eqb}
 use lib.Bits.{bit_xor}
 use lib.ListN.{length, get_or, take, drop, set, take-append-drop, length-take, length-drop}
-use lib.Seq.{drop-cons, take-add, take_all}
+use lib.Seq.{drop-cons, take_all}
 use Rattle.keccak.specs.Lists.{patched}
 use Rattle.keccak.proofs.Parts.{length-patched, patched-rest, take-patched, take_rest, xor_into_nothing}
 use Rattle.keccak.specs.Strings.{xor_into}
@@ -265,77 +265,73 @@ part-squeezed s n ys h l is =
 
 -- ---- what the loops carry
 
--- `absorb`: the sponge has absorbed what stands before `done`.
-pub record Absorbing (s₀ : Sponge) (input : List ℕ) (done : ℕ) (s : Sponge) : Type 0 where
-  pub begun : Sound s₀
-  pub within : done ≤ length input
-  pub is : s ≡ absorbed s₀ (take done input)
+-- `absorb`: with what is left of the input the sponge will have absorbed all of it.
+pub record Absorbing (s₀ : Sponge) (input : List ℕ) (s : Sponge) (rest : List ℕ) : Type 0 where
+  pub sound : Sound s
+  pub is : absorbed s rest ≡ absorbed s₀ input
 
-module _ {s₀ : Sponge} {input : List ℕ} {done : ℕ} {s : Sponge} (h : Absorbing s₀ input done s) where
-  absorbing_sound : Sound s
-  absorbing_sound = subst Sound (sym h.is) (sound_absorbed s₀ (take done input) h.begun)
+absorbed_nothing : (s : Sponge) (rest : List ℕ) → length rest ≡ 0 → absorbed s rest ≡ s
+unfolding absorbed
+absorbed_nothing s [] none = refl
+absorbed_nothing s (b ∷ bs) none = cc
 
-  module _ {t : Sponge} (is-t : t ≡ ready s) where
-    pub absorbing_ready : Ready s t
-    absorbing_ready = is_ready_as s t absorbing_sound is-t
-
-    -- The next k bytes.
-    pub absorbing_more : (k : ℕ) {u : Sponge} → 0 < k → done + k ≤ length input
-        → u ≡ absorbed t (take (done + k - done) (drop done input))
-        → Absorbing s₀ input (done + k) u
-    absorbing_more k some room is-u =
-        let part = take k (drop done input) in
-        let same : done + k - done ≡ k = omega arith in
-        let long : length part ≡ k = simp (length-take, length-drop) (omega arith) in
-        record {
-          begun = h.begun;
-          within = room;
-          is =
-              is-u ∙ ap (λ (n : ℕ). absorbed t (take n (drop done input))) same ∙ ap (λ (v : Sponge). absorbed v part) is-t
-              ∙ sym (absorbed-ready s part absorbing_sound (omega arith)) ∙ ap (λ (v : Sponge). absorbed v part) h.is
-              ∙ absorbed-append s₀ (take done input) part ∙ ap (absorbed s₀) (sym (take-add done k input));
-        }
-
--- `skip` and `squeeze`: the sponge has advanced by `done` bytes of n.
-pub record Advancing (s₀ : Sponge) (n done : ℕ) (s : Sponge) : Type 0 where
-  pub begun : Sound s₀
-  pub within : done ≤ n
-  pub is : s ≡ advanced s₀ done
-
-pub advancing_begun : (s : Sponge) (n : ℕ) → Sound s → Advancing s n 0 s
-unfolding advanced
-advancing_begun s n h = record { begun = h; within = omega arith; is = refl }
-
-module _ {s₀ : Sponge} {n done : ℕ} {s : Sponge} (h : Advancing s₀ n done s) where
-  advancing_sound : Sound s
-  advancing_sound = subst Sound (sym h.is) (sound_advanced s₀ done h.begun)
-
-  module _ {t : Sponge} (is-t : t ≡ ready s) where
-    pub advancing_ready : Ready s t
-    advancing_ready = is_ready_as s t advancing_sound is-t
-
-    -- The next k bytes.
-    pub advancing_more : (k : ℕ) {u : Sponge} → 0 < k → done + k ≤ n → u ≡ advanced t k → Advancing s₀ n (done + k) u
-    advancing_more k some room is-u =
-        record {
-          begun = h.begun;
-          within = room;
-          is =
-              is-u ∙ ap (λ (v : Sponge). advanced v k) is-t ∙ sym (advanced-ready s k advancing_sound some)
-              ∙ ap (λ (v : Sponge). advanced v k) h.is ∙ sym (advanced-add s₀ done k);
-        }
+module _ {s₀ : Sponge} {input : List ℕ} {s : Sponge} {rest : List ℕ} (h : Absorbing s₀ input s rest) where
+  -- The next bytes of the rest.
+  pub absorbing_more : {t u : Sponge} (part later : List ℕ) → t ≡ ready s → 0 < length part → rest ≡ part ++ later → u ≡ absorbed t part
+      → Absorbing s₀ input u later
+  absorbing_more {u = u} part later is-t some parts is-u =
+      let took : u ≡ absorbed s part =
+      is-u ∙ ap (λ (v : Sponge). absorbed v part) is-t ∙ sym (absorbed-ready s part h.sound some)
+      in
+      record {
+        sound = subst Sound (sym took) (sound_absorbed s part h.sound);
+        is =
+            ap (λ (v : Sponge). absorbed v later) took ∙ absorbed-append s part later ∙ ap (absorbed s) (sym parts) ∙ h.is;
+      }
 
   -- After the last turn.
-  pub advancing_all : n ≤ done → s ≡ advanced s₀ n
-  advancing_all last =
-      let all : done ≡ n = omega (arith, h.within) in
-      h.is ∙ ap (advanced s₀) all
+  pub absorbing_all : length rest ≡ 0 → s ≡ absorbed s₀ input
+  absorbing_all none = sym (absorbed_nothing s rest none) ∙ h.is
 
--- `squeeze`: what is more, the output up to `done` is what the sponge gives first.
+-- `skip`: with what is left the sponge will have advanced by all n bytes.
+pub record Skipping (s₀ : Sponge) (n : ℕ) (s : Sponge) (left : ℕ) : Type 0 where
+  pub sound : Sound s
+  pub is : advanced s left ≡ advanced s₀ n
+
+-- A part that was passed over by a sponge that was made ready.
+part_passed : {s t u : Sponge} (k : ℕ) → Sound s → t ≡ ready s → 0 < k → u ≡ advanced t k → u ≡ advanced s k
+part_passed {s} k sound is-t some is-u = is-u ∙ ap (λ (v : Sponge). advanced v k) is-t ∙ sym (advanced-ready s k sound some)
+
+module _ {s₀ : Sponge} {n : ℕ} {s : Sponge} {left : ℕ} (h : Skipping s₀ n s left) where
+  -- The next k bytes.
+  pub skipping_more : {t u : Sponge} (k : ℕ) → t ≡ ready s → 0 < k → k ≤ left → u ≡ advanced t k → Skipping s₀ n u (left - k)
+  skipping_more k is-t some room is-u =
+      let took = part_passed k h.sound is-t some is-u in
+      let parts : k + (left - k) ≡ left = omega arith in
+      record {
+        sound = subst Sound (sym took) (sound_advanced s k h.sound);
+        is =
+            ap (λ (v : Sponge). advanced v (left - k)) took ∙ sym (advanced-add s k (left - k)) ∙ ap (advanced s) parts ∙ h.is;
+      }
+
+  -- After the last turn.
+  pub skipping_all : left ≤ 0 → s ≡ advanced s₀ n
+  unfolding advanced
+  skipping_all last =
+      let none : 0 ≡ left = omega arith in
+      ap (advanced s) none ∙ h.is
+
+-- `squeeze`: the sponge has advanced by `done` bytes, and the output up to `done` is what the sponge gave first.
 pub record Squeezing (s₀ : Sponge) (output₀ : List ℕ) (done : ℕ) (s : Sponge) (output : List ℕ) : Type 0 where
-  pub sponge : Advancing s₀ (length output₀) done s
+  pub sound : Sound s
+  pub within : done ≤ length output₀
+  pub sponge : s ≡ advanced s₀ done
   pub long : length output ≡ length output₀
   pub bytes : take done output ≡ squeezed s₀ done
+
+pub squeezing_begun : (s : Sponge) (output : List ℕ) → Sound s → Squeezing s output 0 s output
+unfolding squeezed advanced
+squeezing_begun s output h = record { sound = h; within = omega arith; sponge = refl; long = refl; bytes = refl }
 
 module _ {s₀ : Sponge} {output₀ : List ℕ} {done : ℕ} {s : Sponge} {output : List ℕ} (h : Squeezing s₀ output₀ done s output) where
   -- The next k bytes.
@@ -348,12 +344,15 @@ module _ {s₀ : Sponge} {output₀ : List ℕ} {done : ℕ} {s : Sponge} {outpu
       let size : length (take (done + k - done) (drop done output)) ≡ k = simp (length-take, length-drop) (omega arith) in
       let long : length ys ≡ k = ap length gave.bytes ∙ length-squeezed t _ ∙ size in
       let next : ys ≡ squeezed (advanced s₀ done) k =
-      gave.bytes ∙ ap (squeezed t) size ∙ ap (λ (v : Sponge). squeezed v k) is-t ∙ sym (squeezed-ready s k (advancing_sound h.sponge))
-      ∙ ap (λ (v : Sponge). squeezed v k) h.sponge.is
+      gave.bytes ∙ ap (squeezed t) size ∙ ap (λ (v : Sponge). squeezed v k) is-t ∙ sym (squeezed-ready s k h.sound)
+      ∙ ap (λ (v : Sponge). squeezed v k) h.sponge
       in
+      let took = part_passed k h.sound is-t some (gave.sponge ∙ ap (advanced t) size) in
       rw step
       (record {
-        sponge = advancing_more h.sponge is-t k some room (gave.sponge ∙ ap (advanced t) size);
+        sound = subst Sound (sym took) (sound_advanced s k h.sound);
+        within = room;
+        sponge = took ∙ ap (λ (v : Sponge). advanced v k) h.sponge ∙ sym (advanced-add s₀ done k);
         long = length-patched done k ys output long inside ∙ h.long;
         bytes = take-patched done k ys output long inside ∙ ap₂ ◌++◌ h.bytes next ∙ sym (squeezed-append s₀ done k);
       })
@@ -361,9 +360,9 @@ module _ {s₀ : Sponge} {output₀ : List ℕ} {done : ℕ} {s : Sponge} {outpu
   -- After the last turn.
   pub squeezing_all : length output₀ ≤ done → Squeezed s₀ (length output₀) s output
   squeezing_all last =
-      let all : done ≡ length output₀ = omega (arith, h.sponge.within) in
+      let all : done ≡ length output₀ = omega (arith, h.within) in
       let full : length output ≤ done = omega (arith, h.long) in
       record {
-        sponge = advancing_all h.sponge last;
+        sponge = h.sponge ∙ ap (advanced s₀) all;
         bytes = sym (take_all done output full) ∙ h.bytes ∙ ap (squeezed s₀) all;
       }

@@ -1,23 +1,18 @@
 // The sponge: a value that absorbs input in pieces of any length and, once its input is complete,
 // squeezes output on from where it stopped, or skips it.
-ghost use Rattle.std.specs.Prelude.{◌≡◌, ◌+◌, ◌≤◌, ◌<◌, min, length};
+ghost use Rattle.std.specs.Prelude.{◌≡◌, ◌+◌, ◌≤◌, length};
 ghost use Rattle.hash.specs.Stream.{Sound, Squeezed, fresh, permuted, ready, absorbed, finished, advanced};
 
-use keccak::strings::{copy, xor_into};
+use keccak::strings::xor_into;
 
 // The string of 200 bytes, the place in its block, and the block's length. Where the place is the
-// block's end, a permutation is due before the next byte.
+// block's end, a permutation is due before the next byte. No ghost field says that it is sound: `new`
+// takes any rate, and the fields are public.
 #[derive(Clone, Copy)]
 pub struct Sponge {
     pub bytes: [u8; 200],
     pub at: usize,
     pub rate: usize,
-}
-
-fn least(a: usize, b: usize) -> usize
-    ensures { result ≡ min a b }
-{
-    if a < b { a } else { b }
 }
 
 impl Sponge {
@@ -36,12 +31,11 @@ impl Sponge {
     fn permute(self) -> Self
         ensures { result ≡ permuted self }
     {
-        let bytes = self.bytes;
-        let next = keccak::permute(bytes);
+        let next = keccak::permute(self.bytes);
         Self {
             bytes: next,
             at: 0,
-            rate: self.rate,
+            ..self
         }
     }
 
@@ -62,12 +56,11 @@ impl Sponge {
         ensures { result ≡ absorbed self part.now }
     {
         let mut bytes = self.bytes;
-        let at = self.at;
-        xor_into(&mut bytes[at..], part);
+        xor_into(&mut bytes[self.at..], part);
         Self {
             bytes,
-            at: at + part.len(),
-            rate: self.rate,
+            at: self.at + part.len(),
+            ..self
         }
     }
 
@@ -77,13 +70,12 @@ impl Sponge {
         ensures { result ≡ absorbed self input.now }
     {
         let mut s = self;
-        let mut done = 0;
-        while done < input.len() {
+        let mut rest = input;
+        while !rest.is_empty() {
             let t = s.ready();
-            let k = least(t.rate - t.at, input.len() - done);
-            let filled = t.absorb_part(&input[done..done + k]);
-            s = filled;
-            done += k;
+            let (part, later) = rest.split_at(rest.len().min(t.rate - t.at));
+            s = t.absorb_part(part);
+            rest = later;
         }
         s
     }
@@ -95,14 +87,12 @@ impl Sponge {
     {
         let t = self.ready();
         let mut bytes = t.bytes;
-        let at = t.at;
-        let last = t.rate - 1;
-        bytes[at] = bytes[at] ^ 0x1f;
-        bytes[last] = bytes[last] ^ 0x80;
+        bytes[t.at] ^= 0x1f;
+        bytes[t.rate - 1] ^= 0x80;
         Self {
             bytes,
             at: t.rate,
-            rate: t.rate,
+            ..t
         }
     }
 
@@ -111,15 +101,9 @@ impl Sponge {
         requires { (self.at + length part.old ≤ self.rate) × (self.rate ≤ 200) }
         ensures { Squeezed self (length part.old) result part.new }
     {
-        let bytes = self.bytes;
-        let at = self.at;
-        let end = at + part.len();
-        copy(part, &bytes[at..end]);
-        Self {
-            bytes,
-            at: end,
-            rate: self.rate,
-        }
+        let end = self.at + part.len();
+        part.copy_from_slice(&self.bytes[self.at..end]);
+        Self { at: end, ..self }
     }
 
     // Fills output with the next bytes.
@@ -128,12 +112,12 @@ impl Sponge {
         ensures { Squeezed self (length output.old) result output.new }
     {
         let mut s = self;
+        // By a place in output: of a rest that is split off anew each turn a proof does not know what was written.
         let mut done = 0;
         while done < output.len() {
             let t = s.ready();
-            let k = least(t.rate - t.at, output.len() - done);
-            let rest = t.squeeze_part(&mut output[done..done + k]);
-            s = rest;
+            let k = (output.len() - done).min(t.rate - t.at);
+            s = t.squeeze_part(&mut output[done..done + k]);
             done += k;
         }
         s
@@ -144,12 +128,9 @@ impl Sponge {
         requires { self.at + n ≤ self.rate }
         ensures { result ≡ advanced self n }
     {
-        let bytes = self.bytes;
-        let end = self.at + n;
         Self {
-            bytes,
-            at: end,
-            rate: self.rate,
+            at: self.at + n,
+            ..self
         }
     }
 
@@ -159,13 +140,13 @@ impl Sponge {
         ensures { result ≡ advanced self n }
     {
         let mut s = self;
-        let mut skipped = 0;
-        while skipped < n {
+        // No `for`: the parts differ in length.
+        let mut left = n;
+        while left > 0 {
             let t = s.ready();
-            let k = least(t.rate - t.at, n - skipped);
-            let next = t.skip_part(k);
-            s = next;
-            skipped += k;
+            let k = left.min(t.rate - t.at);
+            s = t.skip_part(k);
+            left -= k;
         }
         s
     }

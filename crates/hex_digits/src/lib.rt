@@ -8,33 +8,31 @@ ghost use Rattle.hex_digits.specs.Digits.{digit, byte_digits, hexadecimal};
 pub fn pair(low: u8, high: u8) -> u16
     ensures { result ≡ low + 256 * high }
 {
-    low as u16 + 256 * (high as u16)
+    u16::from_le_bytes([low, high])
 }
 
 fn digit(d: u8) -> u8
     requires { d < 16 }
     ensures { result ≡ digit d }
 {
-    if d < 10 { 48 + d } else { 87 + d }
+    if d < 10 { b'0' + d } else { b'a' + (d - 10) }
 }
 
-// Writes the two digits of a byte.
-fn spell_byte(b: u8, line: &mut [u8])
-    requires { length line.old ≡ 2 }
-    ensures { line.new ≡ byte_digits b }
+// The two digits of a byte.
+fn spell_byte(b: u8) -> [u8; 2]
+    ensures { result ≡ byte_digits b }
 {
-    line[0] = digit(b / 16);
-    line[1] = digit(b % 16);
+    [digit(b / 16), digit(b % 16)]
 }
 
 // Writes the digits of the bytes, for which line has just the room.
+// Not by `hex::encode_to_slice`, whose `Result` the length here rules out: that is no plainer.
 pub fn spell(bytes: &[u8], line: &mut [u8])
     requires { length line.old ≡ 2 * length bytes.now }
     ensures { line.new ≡ hexadecimal bytes.now }
 {
-    let mut i = 0;
-    while i < bytes.len() {
-        spell_byte(bytes[i], &mut line[2 * i..2 * i + 2]);
-        i += 1;
+    // By place: a proof does not know what was written through `chunks_exact_mut`.
+    for (i, b) in bytes.iter().enumerate() {
+        line[2 * i..2 * i + 2].copy_from_slice(&spell_byte(*b));
     }
 }

@@ -2,13 +2,14 @@
 -- bytes, and bytes that are added one after another. Assumes nothing.
 use mathlib.Core.Path.{◌≡◌, refl, sym, ap, ap₂, ◌∙◌}
 use mathlib.Core.List.{List, [], ◌∷◌, ◌++◌, append_assoc, append-nil}
-use Prim.Native.Nat.{ℕ, zero, suc, ◌+◌, ◌-◌, ◌*◌, ◌/◌, ◌%◌, ◌^◌, ◌≤◌, ◌<◌, zero-le}
+use Prim.Native.Nat.{ℕ, zero, suc, ◌+◌, ◌-◌, ◌*◌, ◌/◌, ◌^◌, ◌≤◌, ◌<◌, zero-le}
 use native.Mathlib.Nat.{not-suc-le-zero, le_of_suc-le-suc, le_refl, mul-le-mul, div-div-eq-div-mul}
 use native.Mathlib.Numerals.{add-one, towards_suc, unary_clauses}
 use native.Mathlib.Omega.{arith}
 use lib.Bits.{bit_xor}
 use lib.ListN.{length, get_or, take, drop, set, length-append, length-take, length-drop, drop_of_length-le}
-use lib.Seq.{take-append_seam, drop-append_seam, drop-drop, take-suc, drop-cons, sets-eq, take_all, take_at}
+use lib.Seq.{take-append_seam, drop-append_seam, drop-drop, take-suc, drop-cons, take_all, take_at}
+use Rattle.std.specs.Int.{w64, from_le_bytes, to_le_bytes}
 use Rattle.keccak.specs.Lists.{concat_map, patched, value, digits}
 use Rattle.keccak.specs.Strings.{lane_at, xor_into}
 
@@ -127,18 +128,10 @@ unfolding digits
 length_digits w zero v = refl
 length_digits w (suc n) v = ap suc (length_digits w n (v / 2 ^ w))
 
--- A lane's eight bytes, as the code divides them out.
-pub eight_digits : (v : ℕ) → digits 8 8 v ≡ v % 256 ∷ v / 0x100 % 256 ∷ v / 0x10000 % 256 ∷ v / 0x1000000 % 256 ∷ v / 0x100000000 % 256
-    ∷ v / 0x10000000000 % 256 ∷ v / 0x1000000000000 % 256 ∷ v / 0x100000000000000 % 256 ∷ []
+-- The library's eight bytes of a lane.
+pub eight_digits : (v : ℕ) → to_le_bytes w64 v ≡ digits 8 8 v
 unfolding digits
-eight_digits v = simp div-div-eq-div-mul
-
--- Eight bytes written one after another over a string of eight.
-pub eight_written : (dst : List ℕ) (a b c d e f g h : ℕ) → length dst ≡ 8
-    → set (set (set (set (set (set (set (set dst 0 a) 1 b) 2 c) 3 d) 4 e) 5 f) 6 g) 7 h ≡ a ∷ b ∷ c ∷ d ∷ e ∷ f ∷ g ∷ h ∷ []
-eight_written dst a b c d e f g h l =
-    sets-eq (a ∷ b ∷ c ∷ d ∷ e ∷ f ∷ g ∷ h ∷ []) dst 0 (omega arith)
-    ∙ ap (λ (r : List ℕ). (a ∷ b ∷ c ∷ d ∷ e ∷ f ∷ g ∷ h ∷ []) ++ r) (drop_of_length-le dst {i = 8} (omega arith))
+eight_digits v = sym (simp div-div-eq-div-mul)
 
 -- Eight bytes of a string, one by one.
 eight_read : (s : List ℕ) (i : ℕ) → i + 8 ≤ length s
@@ -165,24 +158,19 @@ eight_read s i h =
       drop-cons s (suc (suc (suc (suc (suc (suc (suc i))))))) 0 h7,
     ))
 
--- A lane is joined from its eight bytes, the highest first.
-pub lane-joined : (s : List ℕ) (i : ℕ) {a b c d e f g h : ℕ} → i + 8 ≤ length s
-    → a ≡ get_or s (i + 7) 0 + 2 ^ 8 * 0 → b ≡ get_or s (i + 6) 0 + 2 ^ 8 * a → c ≡ get_or s (i + 5) 0 + 2 ^ 8 * b
-    → d ≡ get_or s (i + 4) 0 + 2 ^ 8 * c → e ≡ get_or s (i + 3) 0 + 2 ^ 8 * d → f ≡ get_or s (i + 2) 0 + 2 ^ 8 * e
-    → g ≡ get_or s (i + 1) 0 + 2 ^ 8 * f → h ≡ get_or s i 0 + 2 ^ 8 * g → h ≡ lane_at s i
+-- The library's number of eight bytes.
+eight_worth : (a b c d e f g h : ℕ) → from_le_bytes w64 (a ∷ b ∷ c ∷ d ∷ e ∷ f ∷ g ∷ h ∷ []) ≡ value 8 (a ∷ b ∷ c ∷ d ∷ e ∷ f ∷ g ∷ h ∷ [])
 unfolding value
-lane-joined s i room ea eb ec ed ee ef eg eh =
-    let under : ℕ → ℕ → ℕ = λ k v. get_or s k 0 + 2 ^ 8 * v in
-    eh
-    ∙ ap (under i)
-    (eg
-    ∙ ap (under (i + 1))
-    (ef
-    ∙ ap (under (i + 2))
-    (ee
-    ∙ ap (under (i + 3))
-    (ed ∙ ap (under (i + 4)) (ec ∙ ap (under (i + 5)) (eb ∙ ap (under (i + 6)) ea))))))
-    ∙ sym (ap (value 8) (eight_read s i room))
+eight_worth a b c d e f g h = omega arith
+
+-- A lane is that of its eight bytes.
+pub lane_loaded : (s : List ℕ) (i : ℕ) {bytes : List ℕ} → i + 8 ≤ length s → bytes ≡ take (i + 8 - i) (drop i s)
+    → from_le_bytes w64 bytes ≡ lane_at s i
+lane_loaded s i room is =
+    let eight : i + 8 - i ≡ 8 = omega arith in
+    let read = eight_read s i room in
+    ap (from_le_bytes w64) (is ∙ ap (λ (n : ℕ). take n (drop i s)) eight ∙ read) ∙ eight_worth _ _ _ _ _ _ _ _
+    ∙ sym (ap (value 8) read)
 
 -- ---- bytes added into a string
 

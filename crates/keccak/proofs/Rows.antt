@@ -7,6 +7,7 @@ use native.Mathlib.Omega.{arith}
 use lib.Bits.{bit_or, or_self, or_shifted}
 use lib.Pow.{mod-pow-add, shr_lt, shl-shr}
 use lib.ListN.{get_or}
+use Rattle.std.specs.Int.{w64, rotate_left}
 use Rattle.keccak.specs.Keccak.{five, xor_row, column, effect, theta, rotl}
 
 -- Two lists of five are equal when their entries are.
@@ -43,10 +44,15 @@ joined j k v e l =
     rw (shifted j k v e) (or_shifted (v % 2 ^ j) k (v / 2 ^ j) (shr_lt k j fits))
 
 -- The two shifts of a lane, one of them by 64 − n taken modulo 64, join to the rotation.
-pub rotl_shifts : (n v : ℕ) → n < 64 → v < 2 ^ 64 → bit_or ((v * 2 ^ n) % 2 ^ 64) (v / 2 ^ ((64 - n) % 64)) ≡ rotl n v
+rotl_shifts : (n v : ℕ) → n < 64 → v < 2 ^ 64 → bit_or ((v * 2 ^ n) % 2 ^ 64) (v / 2 ^ ((64 - n) % 64)) ≡ rotl n v
 rotl_shifts zero v h l =
     let low : (v * 1) % 2 ^ 64 ≡ v = ap (λ (x : ℕ). x % 2 ^ 64) (mul-one v) ∙ mod-eq_of_lt l in
     ap₂ bit_or low (div-one v) ∙ or_self v ∙ sym (ap₂ ◌+◌ low (div-eq_of_lt l) ∙ add-zero v)
 rotl_shifts (suc n) v h l =
     let rest : (64 - suc n) % 64 ≡ 64 - suc n = mod-eq_of_lt (omega arith) in
     rw rest (joined (64 - suc n) (suc n) v (omega arith) l)
+
+-- The library's rotation is that of the definitions.
+pub rotated : (n v : ℕ) → n < 64 → v < 2 ^ 64 → rotate_left w64 v n ≡ rotl n v
+rotated n v h l =
+    ap (λ (m : ℕ). bit_or ((v * 2 ^ m) % 2 ^ 64) (v / 2 ^ ((64 - m) % 64))) (mod-eq_of_lt h) ∙ rotl_shifts n v h l

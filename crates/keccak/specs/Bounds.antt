@@ -1,11 +1,6 @@
 -- What the smaller functions of `keccak` ensure besides their values.
-use Rattle.std.specs.Prelude.{◌≡◌, List, [], ℕ, ◌+◌, ◌*◌, ◌<◌, ◌^◌, get_or}
+use Rattle.std.specs.Prelude.{◌≡◌, List, [], ℕ, ◌<◌, get_or}
 use Rattle.keccak.specs.Keccak.{state, offset}
-
--- A number whose lowest digit in base 2^8 is b, with the bound that its bytes give.
-pub record Joined (b high r : ℕ) : Type 0 where
-  pub is : r ≡ b + 2 ^ 8 * high
-  pub below : r < 2 ^ 8 * (high + 1)
 
 -- Five offsets, each below the width of a lane.
 pub record Offsets (n : List ℕ) : Type 0 where

@@ -56,12 +56,12 @@ fn iota_constants() -> [u64; 24]
     ROUND_CONSTANTS
 }
 
-// A lane turned up by n places. The second shift is by 0 and not by 64 where n is 0.
+// A lane turned up by n places.
 fn rotl(v: u64, n: u32) -> u64
     requires { n < 64 }
     ensures { result ≡ rotl n v }
 {
-    (v << n) | (v >> ((64 - n) % 64))
+    v.rotate_left(n)
 }
 
 fn xor_row(p: [u64; 5], q: [u64; 5]) -> [u64; 5]
@@ -174,7 +174,7 @@ fn iota(a: [[u64; 5]; 5], c: u64) -> [[u64; 5]; 5]
     ensures { result ≡ iota c a }
 {
     let mut s = a;
-    s[0][0] = s[0][0] ^ c;
+    s[0][0] ^= c;
     s
 }
 
@@ -187,13 +187,11 @@ fn round(a: [[u64; 5]; 5], c: u64) -> [[u64; 5]; 5]
 pub fn keccak_f(a: [[u64; 5]; 5]) -> [[u64; 5]; 5]
     ensures { result ≡ keccak_f a }
 {
-    let constants = iota_constants();
     let mut s = a;
-    let mut i = 0;
-    while i < 24 {
-        let t = round(s, constants[i]);
+    for constant in iota_constants() {
+        // By a name of its own, since the check covers no call whose result is laid into an array in place.
+        let t = round(s, constant);
         s = t;
-        i += 1;
     }
     s
 }

@@ -1,26 +1,19 @@
-// Strings of bytes: the state of a string and the string of a state (FIPS 202, 3.1), and the two
-// loops by which a sponge takes and gives bytes.
-ghost use Rattle.std.specs.Prelude.{◌≡◌, ◌+◌, ◌*◌, ◌^◌, ◌≤◌, ◌<◌, length};
+// Strings of bytes: the state of a string and the string of a state (FIPS 202, 3.1), and the
+// loops by which bytes are added and copied. What is written is indexed, since a proof does not
+// know what was written through `chunks_exact_mut` or `iter_mut().zip(..)`.
+ghost use Rattle.std.specs.Prelude.{◌≡◌, ◌+◌, ◌*◌, ◌≤◌, length};
 ghost use Rattle.keccak.specs.Lists.{digits};
 ghost use Rattle.keccak.specs.Keccak.{five};
 ghost use Rattle.keccak.specs.Strings.{lane_at, to_state, row_string, from_state, xor_into};
-ghost use Rattle.keccak.specs.Bounds.{Joined};
-
-// A byte with the digits above it.
-fn join(b: u8, high: u64) -> u64
-    requires { high < 2 ^ 56 }
-    ensures { Joined b high result }
-{
-    b as u64 + 256 * high
-}
 
 // The lane of the eight bytes from i on.
 fn load(s: &[u8], i: usize) -> u64
     requires { i + 8 ≤ length s.now }
     ensures { result ≡ lane_at s.now i }
 {
-    let high = join(s[i + 4], join(s[i + 5], join(s[i + 6], join(s[i + 7], 0))));
-    join(s[i], join(s[i + 1], join(s[i + 2], join(s[i + 3], high))))
+    let mut bytes = [0u8; 8];
+    bytes.copy_from_slice(&s[i..i + 8]);
+    u64::from_le_bytes(bytes)
 }
 
 // The five lanes from byte i on.
@@ -55,14 +48,7 @@ pub fn store(dst: &mut [u8], v: u64)
     requires { length dst.old ≡ 8 }
     ensures { dst.new ≡ digits 8 8 v }
 {
-    dst[0] = (v % 256) as u8;
-    dst[1] = (v / 0x100 % 256) as u8;
-    dst[2] = (v / 0x10000 % 256) as u8;
-    dst[3] = (v / 0x1000000 % 256) as u8;
-    dst[4] = (v / 0x100000000 % 256) as u8;
-    dst[5] = (v / 0x10000000000 % 256) as u8;
-    dst[6] = (v / 0x1000000000000 % 256) as u8;
-    dst[7] = (v / 0x100000000000000 % 256) as u8;
+    dst.copy_from_slice(&v.to_le_bytes());
 }
 
 // Writes the forty bytes of a row.
@@ -70,10 +56,8 @@ fn store_row(dst: &mut [u8], p: [u64; 5])
     requires { length dst.old ≡ 40 }
     ensures { dst.new ≡ row_string p }
 {
-    let mut x = 0;
-    while x < 5 {
-        store(&mut dst[8 * x..8 * x + 8], p[x]);
-        x += 1;
+    for (x, lane) in p.iter().enumerate() {
+        store(&mut dst[8 * x..8 * x + 8], *lane);
     }
 }
 
@@ -81,10 +65,8 @@ pub fn from_state(a: [[u64; 5]; 5]) -> [u8; 200]
     ensures { result ≡ from_state a }
 {
     let mut s = [0u8; 200];
-    let mut y = 0;
-    while y < 5 {
-        store_row(&mut s[40 * y..40 * y + 40], a[y]);
-        y += 1;
+    for (y, row) in a.iter().enumerate() {
+        store_row(&mut s[40 * y..40 * y + 40], *row);
     }
     s
 }
@@ -94,20 +76,18 @@ pub fn xor_into(dst: &mut [u8], src: &[u8])
     requires { length src.now ≤ length dst.old }
     ensures { dst.new ≡ xor_into dst.old src.now }
 {
-    let mut i = 0;
-    while i < src.len() {
-        dst[i] = dst[i] ^ src[i];
-        i += 1;
+    for (i, b) in src.iter().enumerate() {
+        dst[i] ^= *b;
     }
 }
 
+// Copies src. It goes byte by byte, which compiles to memcpy: between two lent slices `copy_from_slice` is memmove, which the
+// archive asks of no C library.
 pub fn copy(dst: &mut [u8], src: &[u8])
     requires { length dst.old ≡ length src.now }
     ensures { dst.new ≡ src.now }
 {
-    let mut i = 0;
-    while i < src.len() {
-        dst[i] = src[i];
-        i += 1;
+    for (i, b) in src.iter().enumerate() {
+        dst[i] = *b;
     }
 }

@@ -11,6 +11,7 @@ ghost use Rattle.vectors.specs.Vectors.{vector};
 ghost use Rattle.keys.specs.Stored.{stored_of};
 ghost use Rattle.keys.specs.Inputs.{SecretsRoom, VectorRoom, StoredRoom, PublicRoom, KeygenRoom};
 
+use keccak::strings::copy;
 use kindi::Params;
 use vectors::lengths;
 
@@ -27,7 +28,8 @@ fn read_secrets(p: Params, stream: &[u8], r: &mut [u16], sums: &mut [u16])
 }
 
 // b modulo 2^16, in sums. The polynomials of A lie in the work area from `at` on, over the stream of γ, which is not read any
-// more, or behind it, where it is still wanted; a has room for one of them.
+// more, or behind it, where it is still wanted: a place beside the area, since two parts of one slice cannot be lent at once. a has
+// room for one of them.
 fn public_vector(
     p: Params,
     mu: &[u8],
@@ -76,9 +78,9 @@ pub fn public_polynomials(
 {
     let n = p.n;
     let vector = p.l * n;
-    let mut a = vectors::polynomial();
-    let mut r = vectors::zeros();
-    let mut sums = vectors::zeros();
+    let mut a = [0u16; 512];
+    let mut r = [0u16; 1536];
+    let mut sums = [0u16; 1536];
     public_vector(
         p,
         mu,
@@ -110,8 +112,8 @@ pub fn keygen(
     let public = stored + p.seed;
     let end = public + p.seed;
     public_polynomials(p, p.t, mu, gamma, 0, work, &mut pk[..stored]);
-    keccak::strings::copy(&mut pk[stored..], mu);
-    keccak::strings::copy(&mut sk[..public], pk);
-    keccak::strings::copy(&mut sk[public..end], gamma);
-    keccak::strings::copy(&mut sk[end..], z);
+    copy(&mut pk[stored..], mu);
+    copy(&mut sk[..public], pk);
+    copy(&mut sk[public..end], gamma);
+    copy(&mut sk[end..], z);
 }

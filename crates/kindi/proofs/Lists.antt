@@ -1,40 +1,18 @@
--- Laws of lists that are compared and searched entry by entry, and of strings of parts of one length. Assumes nothing.
+-- Laws of lists that are searched entry by entry, and of strings of parts of one length. Assumes nothing.
 use mathlib.Core.Path.{◌≡◌, refl, sym, ap, ◌∙◌}
-use mathlib.Core.Bool.{Bool, true, false, ◌&&◌, ◌||◌}
+use mathlib.Core.Bool.{Bool, true, false, ◌||◌}
 use mathlib.Core.List.{List, [], ◌∷◌, ◌++◌}
 use Prim.Native.Nat.{ℕ, zero, suc, ◌+◌, ◌*◌, ◌≤◌, ◌<◌, zero-le, suc-le-suc}
-use native.Mathlib.Nat.{not-suc-le-zero, le_of_suc-le-suc, suc_inj, suc-mul, mul-le-mul_right}
+use native.Mathlib.Nat.{not-suc-le-zero, le_of_suc-le-suc, suc-mul, mul-le-mul_right}
 use native.Mathlib.Omega.{arith}
-use lib.Dec.{eqb}
-use lib.ListN.{length, get_or, take, drop, length-take, length-drop}
+use lib.ListN.{length, drop, length-take, length-drop}
 use lib.Seq.{ext_get_or, get_or-take, get_or-drop}
 use Rattle.keccak.specs.Lists.{tabulate}
 use Rattle.keccak.proofs.Entries.{tabulate-add}
 use Rattle.kindi.specs.Keys.{joined}
-use Rattle.kindi.specs.Answers.{same, some, part_at}
+use Rattle.kindi.specs.Answers.{some, part_at}
 use Rattle.kindi.proofs.Chains.{never}
 use Rattle.kindi.proofs.Strings.{joined_at, length-joined}
-
--- ---- two lists, entry by entry
-
-and-true : (t : Bool) → (t && true) ≡ t
-and-true true = refl
-and-true false = refl
-
-and_assoc : (s t u : Bool) → ((s && t) && u) ≡ (s && (t && u))
-and_assoc true t u = refl
-and_assoc false t u = refl
-
--- One entry more.
-pub same_more : (xs ys : List ℕ) (i : ℕ) → i < length xs → length xs ≡ length ys
-    → (same (take i xs) (take i ys) && eqb (get_or xs i 0) (get_or ys i 0)) ≡ same (take (suc i) xs) (take (suc i) ys)
-unfolding same
-same_more [] ys i h e = absurd (not-suc-le-zero h)
-same_more (x ∷ xs) [] i h e = absurd (omega arith)
-same_more (x ∷ xs) (y ∷ ys) zero h e = sym (and-true (eqb x y))
-same_more (x ∷ xs) (y ∷ ys) (suc i) h e =
-    and_assoc (eqb x y) (same (take i xs) (take i ys)) (eqb (get_or xs i 0) (get_or ys i 0))
-    ∙ ap (λ (t : Bool). eqb x y && t) (same_more xs ys i (le_of_suc-le-suc h) (suc_inj e))
 
 -- ---- tests, one after another
 

@@ -3,12 +3,11 @@ use mathlib.Core.Path.{◌≡◌, refl, sym, ap, ◌∙◌}
 use mathlib.Core.Bool.{Bool, true, false, cond}
 use mathlib.Core.List.{List, [], ◌∷◌, ◌++◌, append_assoc}
 use Prim.Native.Nat.{ℕ, zero, suc, ◌+◌, ◌-◌, ◌*◌, ◌/◌, ◌%◌, ◌^◌, ◌≤◌, ◌<◌}
-use native.Mathlib.Numerals.{add-one}
 use native.Mathlib.Omega.{arith}
 use borrow.Author.Tests.{lt-ltb, le-ltb, ltb-true, ltb-false, ne_eqb}
 use lib.Dec.{eqb, ltb}
-use lib.ListN.{length, take, drop, set, length-append}
-use lib.Seq.{take-suc-set, drop-set-lt, drop-drop}
+use lib.ListN.{length, take, drop, length-append}
+use lib.Seq.{drop-drop}
 use Rattle.keccak.specs.Lists.{concat_map, patched}
 use Rattle.keccak.proofs.Parts.{take-patched, drop-patched, concat_map-append}
 use Rattle.hex_digits.specs.Digits.{digit, byte_digits, hexadecimal}
@@ -35,11 +34,6 @@ pub written_as : {entry : List ℕ} {at : ℕ} {text other : List ℕ} {next : �
     → Written entry at text next exit → Written entry at other next exit
 written_as e w = rw e at w
 
--- One byte.
-pub written_byte : (entry : List ℕ) (at b : ℕ) → at < length entry → Written entry at (b ∷ []) (at + 1) (set entry at b)
-written_byte entry at b h =
-    record { next_is = refl; stands = rw add-one (take-suc-set entry at b h); behind = drop-set-lt (at + 1) entry at b (omega arith) }
-
 -- A part from `at` to an end that has come back.
 written_to : (entry text : List ℕ) (at k : ℕ) → length text ≡ k → at + k ≤ length entry
     → Written entry at text (at + k) (patched at (at + k - at) text entry)
@@ -50,6 +44,11 @@ written_to entry text at k e h =
       stands = rw width (take-patched at k text entry e h);
       behind = rw width (drop-patched at k text entry e h);
     }
+
+-- A text that was copied there.
+pub written_text : (entry text : List ℕ) {copied : List ℕ} (at : ℕ) → copied ≡ text → at + length text ≤ length entry
+    → Written entry at text (at + length text) (patched at (at + length text - at) copied entry)
+written_text entry text at is room = rw is (written_to entry text at (length text) refl room)
 
 -- ---- decimal
 
@@ -100,21 +99,6 @@ decimal_long (suc d) v h =
 pub decimal_fits : (v : ℕ) → v < 2 ^ 64 → length (decimal v) ≤ 20
 decimal_fits v h = decimal_long 19 v (omega arith)
 
--- How far a number is above those of 64 bits: 0 for one of 64 bits. With it the laws of the place after a number have no premise on
--- the number, so `omega` takes them by their names.
-abbrev pub over : ℕ → ℕ
-over v = v - (2 ^ 64 - 1)
-
--- Any number has at most 20 digits and so many more.
-over_long : (places v : ℕ) → v < places → length (decimal v) ≤ 20 + over v
-over_long zero v h = absurd (omega arith)
-over_long (suc places) v h =
-    either (ltb v (2 ^ 64)) (λ t. omega (arith, decimal_fits v (ltb-true v (2 ^ 64) t)))
-    (λ f.
-    let many : 2 ^ 64 ≤ v = ltb-false v (2 ^ 64) f in
-    let tenth = over_long places (v / 10) (omega arith) in
-    omega (arith, tenth_long v (omega arith)))
-
 -- ---- fields
 
 -- Bytes after others.
@@ -139,32 +123,6 @@ some_there : (xs : List ℕ) → 0 < length xs → hexadecimal xs ≡ output_fie
 unfolding output_field
 some_there [] h = absurd (omega arith)
 some_there (x ∷ xs) h = refl
-
--- The room that an output takes.
-output_long : (xs : List ℕ) → length (output_field xs) ≤ 1 + 2 * length xs
-unfolding output_field
-output_long [] = omega arith
-output_long (x ∷ xs) = rw (length-hexadecimal (x ∷ xs)) (omega arith)
-
--- The place after a field.
-module _ {entry : List ℕ} {at next : ℕ} {exit : List ℕ} where
-  -- A number and its space.
-  pub after-number : (v : ℕ) → Written entry at (decimal v ++ (32 ∷ [])) next exit → next ≤ at + (21 + over v)
-  after-number v w = omega (arith, over_long (suc v) v (omega arith), length-append (decimal v) (32 ∷ []), w.next_is)
-
-  -- A kind and its space.
-  pub after_kind : (known : Bool) (v : ℕ) → Written entry at (kind_field known v ++ (32 ∷ [])) next exit → next ≤ at + (21 + over v)
-  after_kind true v w = after-number v w
-  after_kind false v w = omega (arith, w.next_is)
-
-  -- Bytes in hexadecimal.
-  pub after_hex : (bytes : List ℕ) → Written entry at (hexadecimal bytes) next exit → next ≤ at + 2 * length bytes
-  after_hex bytes w = omega (arith, length-hexadecimal bytes, w.next_is)
-
-  -- An output of two parts.
-  pub after-output : (first second : List ℕ) → Written entry at (output_field (first ++ second)) next exit
-      → next ≤ at + (1 + 2 * (length first + length second))
-  after-output first second w = omega (arith, output_long (first ++ second), length-append first second, w.next_is)
 
 -- ---- what a field, a line and the last line are made of
 
@@ -204,17 +162,14 @@ written_line number kind status size output is w1 w2 w3 w4 w5 w6 =
     (written_then (written_then (written_then (written_then (written_then w1 w2) w3) (rw is at w4)) w5) w6)
 
 -- The parts of the last line are the last line.
-end_fields : (number : ℕ)
-    → (((((101 ∷ []) ++ (110 ∷ [])) ++ (100 ∷ [])) ++ (32 ∷ [])) ++ decimal number) ++ (10 ∷ []) ≡ end_line number
+end_fields : (number : ℕ) → ((101 ∷ 110 ∷ 100 ∷ 32 ∷ []) ++ decimal number) ++ (10 ∷ []) ≡ end_line number
 unfolding end_line fields
-end_fields number = simp append_assoc
+end_fields number = refl
 
 -- So it is written by its parts, one after another.
-pub written_end : {b0 b1 b2 b3 b4 b5 b6 : List ℕ} {n0 n1 n2 n3 n4 n5 n6 : ℕ} (number : ℕ) → Written b0 n0 (101 ∷ []) n1 b1
-    → Written b1 n1 (110 ∷ []) n2 b2 → Written b2 n2 (100 ∷ []) n3 b3 → Written b3 n3 (32 ∷ []) n4 b4
-    → Written b4 n4 (decimal number) n5 b5 → Written b5 n5 (10 ∷ []) n6 b6 → Written b0 n0 (end_line number) n6 b6
-written_end number w1 w2 w3 w4 w5 w6 =
-    written_as (end_fields number) (written_then (written_then (written_then (written_then (written_then w1 w2) w3) w4) w5) w6)
+pub written_end : {b0 b1 b2 b3 : List ℕ} {n0 n1 n2 n3 : ℕ} (number : ℕ) → Written b0 n0 (101 ∷ 110 ∷ 100 ∷ 32 ∷ []) n1 b1
+    → Written b1 n1 (decimal number) n2 b2 → Written b2 n2 (10 ∷ []) n3 b3 → Written b0 n0 (end_line number) n3 b3
+written_end number w1 w2 w3 = written_as (end_fields number) (written_then (written_then w1 w2) w3)
 
 -- ---- line feeds
 

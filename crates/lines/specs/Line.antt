@@ -1,5 +1,5 @@
 -- The lines that `linkcheck` prints (01, "Records on standard input"), in ASCII. Rests on hex's digits.
-use Rattle.std.specs.Prelude.{◌≡◌, Bool, cond, List, [], ◌∷◌, ◌++◌, ℕ, zero, suc, ◌+◌, ◌/◌, ◌%◌, eqb, ltb, length, take, drop}
+use Rattle.std.specs.Prelude.{◌≡◌, Bool, cond, List, [], ◌∷◌, ◌++◌, ℕ, zero, suc, ◌+◌, ◌/◌, ◌%◌, eqb, ltb, length, take, drop, Option, is_some, unwrap_or}
 use Rattle.hex_digits.specs.Digits.{hexadecimal}
 
 -- A number in decimal, in at most so many places.
@@ -20,6 +20,10 @@ fields (x ∷ (y ∷ rest)) = x ++ (32 ∷ fields (y ∷ rest))
 -- The kind in decimal, or - where no kind is known: after 10 and 11.
 abbrev pub kind_field : Bool → ℕ → List ℕ
 kind_field known kind = cond known (decimal kind) (45 ∷ [])
+
+-- The same of a kind that may have been read.
+abbrev pub field_of : Option ℕ → List ℕ
+field_of kind = kind_field (is_some kind) (unwrap_or kind 0)
 
 -- The output in lower-case hexadecimal, or - where there is none.
 unfoldable pub output_field : List ℕ → List ℕ

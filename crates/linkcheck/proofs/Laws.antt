@@ -1,18 +1,14 @@
 -- Laws of the turns of `linkcheck`: what is left of the input is kept, reading and answering come to an end, and every place stays
 -- within its buffer. Assumes nothing.
-use mathlib.Core.Path.{◌≡◌, refl, sym, ap, subst, ◌∙◌}
+use mathlib.Core.Path.{◌≡◌, refl, sym, ap, ◌∙◌}
 use mathlib.Core.Bool.{Bool, true, false, cond, not, ◌&&◌}
 use mathlib.Core.List.{List, [], ◌∷◌, ◌++◌}
 use Prim.Native.Nat.{ℕ, zero, suc, ◌+◌, ◌-◌, ◌≤◌, ◌<◌}
 use native.Mathlib.Nat.{le_refl}
 use native.Mathlib.Omega.{arith}
-use borrow.Author.Tests.{eqb-true, eqb-false, not-true, not-false, le-leb, lt-leb}
-use lib.Dec.{eqb}
+use borrow.Author.Tests.{le-leb, lt-leb}
 use lib.ListN.{length, take, drop, replicate, length-take, length-drop, length-append}
 use lib.Seq.{drop-nil, length-take-le, take_at, take-take, take-append-le}
-use Rattle.std.specs.Prelude.{Result, Ok, Err}
-use Rattle.std.specs.Result.{result_unwrap_or}
-use Rattle.std.specs.Io.{ReadsAtMost}
 use Rattle.keccak.specs.Lists.{patched}
 use Rattle.lines.specs.Line.{Written}
 use Rattle.records.specs.declared.step.Stepped.{Stepped}
@@ -24,23 +20,6 @@ use Rattle.records.proofs.Windows.{consumed_within}
 use Rattle.records.proofs.Transcripts.{goes_on_less}
 use Rattle.linkcheck.specs.declared.State.{State}
 use Rattle.linkcheck.specs.Turns.{window_of, Places, flushed, has_room, RoomMade, Filled, waits, Ready, Wiped, Answered}
-
--- What is left to read, and one more while the input may go on, falls with every read.
-falls : (none : Bool) (len end more : ℕ) → eqb more 0 ≡ none → end + more ≤ len
-    → (len - (end + more)) + cond (not none) 1 0 < (len - end) + 1
-falls true len end more e h = omega arith
-falls false len end more e h = omega (arith, eqb-false more 0 e)
-
--- In the words of the loop: `len` is the buffer's length before the read and `len'` after it.
-pub read_falls : {len len' : ℕ} {more : Bool} (end count : ℕ) → more ≡ true → len' ≡ len → end + count ≤ len
-    → (len' - (end + count)) + cond (not (eqb count 0)) 1 0 < (len - end) + cond more 1 0
-read_falls {len} end count on long inside = rw (on, long) (falls (eqb count 0) len end count refl inside)
-
--- A read gives no more bytes than its buffer has, and none where it failed.
-pub count_within : {E : Type 0} (r : Result ℕ E) (buf : List ℕ) {count : ℕ} → count ≡ result_unwrap_or r 0 → ReadsAtMost r buf
-    → count ≤ length buf
-count_within (Ok n) buf e h = rw e h.0
-count_within (Err x) buf e h = omega arith
 
 -- What was written stands within the buffer.
 pub written_within : {entry text exit : List ℕ} {at next : ℕ} → Written entry at text next exit → at ≤ length entry → next ≤ length exit
@@ -55,26 +34,14 @@ front_window input end =
     let all : end - 0 ≡ end = omega arith in
     rw all refl
 
--- What `fill` carries: the first `left` bytes are those that were moved to the front, and what was read ends at `end`; where a read
--- gave nothing no record is shown, and where one was shown at first nothing was read.
-pub record Reading (moved : List ℕ) (left : ℕ) (input : List ℕ) (end : ℕ) (more : Bool) : Type 0 where
+-- What `fill` carries: the first `left` bytes are those that were moved to the front, and what was read ends at `end`; where a record
+-- was shown at first nothing was read.
+pub record Reading (moved : List ℕ) (left : ℕ) (input : List ℕ) (end : ℕ) : Type 0 where
   pub within : end ≤ length input
   pub long : length input ≡ length moved
   pub some : left ≤ end
   pub same : take left input ≡ take left moved
-  pub over : more ≡ false → shows_record (take end input) ≡ false
   pub unread : shows_record (take left moved) ≡ true → (input ≡ moved) × (end ≡ left)
-
--- Nothing was read yet.
-pub reading_begun : {moved : List ℕ} {left : ℕ} → left ≤ length moved → Reading moved left moved left true
-reading_begun fits = record {
-  within = fits;
-  long = refl;
-  some = le_refl _;
-  same = refl;
-  over = λ e. never_true e;
-  unread = λ e. (refl, refl);
-}
 
 -- A read behind a place changes nothing before it.
 read_before : (input : List ℕ) (k end : ℕ) (ys : List ℕ) → k ≤ end → end ≤ length input
@@ -83,27 +50,26 @@ read_before input k end ys h within =
     let long = length-take-le end input within in
     take-append-le k (take end input) (ys ++ drop (length input - end) (drop end input)) (omega arith) ∙ take-take k end input h
 
--- A read that gave nothing.
-nothing_read : (count end : ℕ) → not (eqb count 0) ≡ false → end + count ≡ end
-nothing_read count end e = omega (arith, eqb-true count 0 (not-false _ e))
-
 -- One read more, where no record was shown.
-pub reading_more : {moved input : List ℕ} {left end : ℕ} {more : Bool} (count : ℕ) (ys : List ℕ) → Reading moved left input end more
-    → shows_record (take end input) ≡ false → length (patched end (length input - end) ys input) ≡ length input
-    → end + count ≤ length input
-    → Reading moved left (patched end (length input - end) ys input) (end + count) (not (eqb count 0))
-reading_more {moved} {input} {left} {end} count ys h hidden long inside =
+pub reading_more : {moved input : List ℕ} {left end next : ℕ} (ys : List ℕ) → Reading moved left input end
+    → shows_record (take end input) ≡ false → length (patched end (length input - end) ys input) ≡ length input → end ≤ next
+    → next ≤ length input → Reading moved left (patched end (length input - end) ys input) next
+reading_more {moved} {input} {left} {end} ys h hidden long more inside =
     record {
       within = omega (arith, long);
       long = long ∙ h.long;
       some = omega (arith, h.some);
       same = read_before input left end ys h.some h.within ∙ h.same;
-      over = λ e. rw (nothing_read count end e, read_before input end end ys (le_refl end) h.within) hidden;
       unread = λ e. never_true (sym e ∙ shown_no_more (h.unread e));
     }
   where
     shown_no_more : (input ≡ moved) × (end ≡ left) → shows_record (take left moved) ≡ false
     shown_no_more (i, n) = rw (i, n) at hidden
+
+-- And where a read gave nothing, none is shown.
+pub still_hidden : (input : List ℕ) (end : ℕ) (ys : List ℕ) → shows_record (take end input) ≡ false → end ≤ length input
+    → false ≡ shows_record (take end (patched end (length input - end) ys input))
+still_hidden input end ys hidden within = rw (read_before input end end ys (le_refl end) within) (sym hidden)
 
 -- What was moved to the front stands there.
 moved_front : (from to : ℕ) (input : List ℕ) → from ≤ to → to ≤ length input
@@ -114,7 +80,7 @@ moved_front from to input order within =
 -- What was left has been moved to the front, and more was read behind it.
 pub filled : {s : State} {input moved input' : List ℕ} {end : ℕ} {more : Bool} → s.from ≤ s.to → s.to ≤ length input
     → moved ≡ take (s.to - s.from) (drop s.from input) ++ drop (s.to - s.from) input → length moved ≡ length input
-    → Reading moved (s.to - s.from) input' end more → more ≡ shows_record (take end input')
+    → Reading moved (s.to - s.from) input' end → more ≡ shows_record (take end input')
     → Filled s input (record { from = 0; to = end; more = more; done = s.done; at = s.at; ended = s.ended }) input'
 unfolding window_of
 filled {s} {input} {moved} {input'} {end} order within is long h shown =
@@ -168,13 +134,14 @@ room_there {s} out within h =
     record { state_is = rw (le-leb _ _ fits) refl; line_fits = fits }
 
 -- Else the output has been written.
-pub room_made : {s r : State} (out : List ℕ) → line_room ≤ length out → length out - s.at < line_room → r ≡ flushed s r.ended
+pub room_made : {s r : State} (out : List ℕ) → line_room ≤ length out → length out - s.at < line_room → r ≡ flushed s false
     → RoomMade s out r
 unfolding flushed
 room_made {s} {r} out room h e =
     let short : length out < s.at + line_room = omega arith in
     let none : r.at ≡ 0 = rw e refl in
-    record { state_is = rw (lt-leb _ _ short) e; line_fits = omega (arith, none) }
+    let on : r.ended ≡ false = rw e refl in
+    record { state_is = rw (lt-leb _ _ short) (e ∙ ap (flushed s) (sym on)); line_fits = omega (arith, none) }
 
 -- Nothing was read.
 ready_at_once : {s r : State} {input out : List ℕ} → Places s input out → RoomMade s out r → waits s input ≡ false
@@ -195,39 +162,45 @@ ready_at_once {s} {r} {input} {out} p made not shown =
       at_once = λ e. (made, refl);
     }
 
--- The input has ended.
-pub ready_ended : {s r : State} {input out : List ℕ} → Places s input out → RoomMade s out r → s.more ≡ false
-    → Ready s input out r input
-ready_ended p made over = ready_at_once p made (rw over refl) (λ e. never_true (sym e ∙ over))
+-- Where the program does not have to wait, a record is shown unless the input has ended.
+shown_at_once : (more shown : Bool) → more && not shown ≡ false → more ≡ true → shown ≡ true
+shown_at_once true true not e = refl
+shown_at_once true false not e = never_true not
+shown_at_once false shown not e = never_true (sym e)
 
--- One of two tests fails.
-and-false : (b : Bool) → b && false ≡ false
-and-false true = refl
-and-false false = refl
-
--- A record is shown already.
-pub ready_shown : {s r : State} {input out : List ℕ} → Places s input out → RoomMade s out r → shows_record (window_of s input) ≡ true
+pub ready_there : {s r : State} {input out : List ℕ} → Places s input out → RoomMade s out r → waits s input ≡ false
     → Ready s input out r input
-ready_shown {s} p made shown = ready_at_once p made (rw shown (and-false s.more)) (λ e. shown)
+ready_there {s} {r} {input} p made not = ready_at_once p made not (shown_at_once s.more (shows_record (window_of s input)) not)
 
 -- The output was written, and more was read.
-pub ready_waited : {s w r : State} {input out input' : List ℕ} → line_room ≤ length out → s.more ≡ true
-    → shows_record (window_of s input) ≡ false → w ≡ flushed s w.ended → Filled w input r input' → Ready s input out r input'
+pub ready_waited : {s f : State} {input out input' : List ℕ} → line_room ≤ length out → waits s input ≡ true
+    → Filled s input f input'
+    → Ready s input out (record { from = f.from; to = f.to; more = f.more; done = f.done; at = 0; ended = false }) input'
 unfolding flushed
-ready_waited {s} {w} {r} {input} {out} {input'} room on hidden fl fi =
-    let waiting : waits s input ≡ true = rw (hidden, on) refl in
-    let f : Filled (flushed s r.ended) input r input' =
-    subst (λ (x : State). Filled x input r input') (fl ∙ ap (flushed s) (sym fi.ended_is)) fi in
+ready_waited {s} {f} {input} {out} {input'} room waiting h =
+    let r : State = record { from = f.from; to = f.to; more = f.more; done = f.done; at = 0; ended = false } in
+    let same : window_of r input' ≡ window_of f input' = same_window f r input' refl refl in
+    let as_was : window_of (flushed s false) input ≡ window_of s input = same_window s (flushed s false) input refl refl in
     record {
       window = record {
-        in_order = omega (arith, f.from_is);
-        in_input = f.in_input;
-        done_is = f.done_is;
-        front = f.front ∙ same_window s (flushed s r.ended) input refl refl;
-        shown = λ e. sym f.more_is ∙ e;
+        in_order = omega (arith, h.from_is);
+        in_input = h.in_input;
+        done_is = h.done_is;
+        front = ap (take (s.to - s.from)) same ∙ h.front;
+        shown = λ e. ap shows_record same ∙ (sym h.more_is ∙ e);
       };
-      line_fits = omega (arith, f.at_is);
-      waited = λ e. f;
+      line_fits = room;
+      waited = λ e. record {
+        from_is = h.from_is;
+        in_input = h.in_input;
+        long = h.long;
+        front = ap (take (s.to - s.from)) same ∙ (h.front ∙ sym as_was);
+        more_is = h.more_is ∙ ap shows_record (sym same);
+        done_is = h.done_is;
+        at_is = refl;
+        ended_is = refl;
+        unread = rw as_was h.unread;
+      };
       at_once = λ e. never_true (sym waiting ∙ e);
     }
 
@@ -277,10 +250,6 @@ zeros_over (suc a) (suc b) [] =
     (suc more.0, ap (λ (l : List ℕ). 0 ∷ l) (rw (drop-nil {A = ℕ} b, drop-nil {A = ℕ} more.0) at more.1))
 zeros_over (suc a) (suc b) (x ∷ xs) = let more = zeros_over a b xs in (suc more.0, ap (λ (l : List ℕ). 0 ∷ l) more.1)
 
--- No step yet.
-pub wiped_none : (work : List ℕ) → Wiped work work
-wiped_none work = record { bytes = 0; work_is = refl }
-
 -- One step more.
 wiped_more : {work₀ work work' : List ℕ} (rest : List ℕ) → Wiped work₀ work → work' ≡ step_work rest work → Wiped work₀ work'
 wiped_more {work₀} {work} rest h e =
@@ -293,30 +262,30 @@ wiped_more {work₀} {work} rest h e =
 
 -- What `run` carries: every place is within its buffer, where the run goes on there is a record left to answer, and no step has left
 -- anything in the work area.
-pub record Running (s : State) (ended : Bool) (work₀ input out first second work : List ℕ) : Type 0 where
+pub record Running (s : State) (work₀ input out first second work : List ℕ) : Type 0 where
   pub wiped : Wiped work₀ work
   pub buffers : Buffers input out first second work
   pub places : Places s input out
-  pub few : not ended ≡ true → s.done < 65535
+  pub few : s.ended ≡ false → s.done < 65535
 
-module _ {s r t : State} {ended : Bool} {work₀ input input' out out' first second work first' second' work' : List ℕ}
-    (h : Running s ended work₀ input out first second work) (on : not ended ≡ true) (ready : Ready s input out r input')
+module _ {s r t : State} {work₀ input input' out out' first second work first' second' work' : List ℕ}
+    (h : Running s work₀ input out first second work) (on : s.ended ≡ false) (ready : Ready s input out r input')
     (a : Answered r input' out first second work t out' first' second' work') where
   -- A record is left to answer before the turn's step.
   few_before : r.done < 65535
   few_before = omega (arith, h.few on, ready.window.done_is)
 
   -- The records that are left to answer fall with every turn, to none where the run ends.
-  pub turn_falls : cond t.ended 0 (65535 - t.done) < cond ended 0 (65535 - s.done)
+  pub turn_falls : cond t.ended 0 (65535 - t.done) < cond s.ended 0 (65535 - s.done)
   turn_falls =
-      rw (not-true ended on, ← ready.window.done_is) (falls_by t.ended a.ends)
+      rw (on, ← ready.window.done_is) (falls_by t.ended a.ends)
     where
       falls_by : (e : Bool) → e ≡ reading_ends r.done (step (window_of r input')) → cond e 0 (65535 - t.done) < 65535 - r.done
       falls_by true is = omega (arith, few_before)
       falls_by false is = omega (arith, few_before, a.done_is, (goes_on_less r.done _ (sym is)).one_more)
 
   -- One turn more.
-  pub running_more : Buffers input' out' first' second' work' → Running t t.ended work₀ input' out' first' second' work'
+  pub running_more : Buffers input' out' first' second' work' → Running t work₀ input' out' first' second' work'
   running_more b = record {
     wiped = wiped_more (window_of r input') h.wiped a.work_is;
     buffers = b;
@@ -327,6 +296,6 @@ module _ {s r t : State} {ended : Bool} {work₀ input input' out out' first sec
       room = omega (arith, b.out_long);
     };
     few = λ e.
-        let further = goes_on_less r.done _ (sym a.ends ∙ not-true t.ended e) in
+        let further = goes_on_less r.done _ (sym a.ends ∙ e) in
         omega (arith, a.done_is, further.one_more, further.not_last);
   }

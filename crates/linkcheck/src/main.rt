@@ -4,10 +4,11 @@
 // run.
 #![tactic(auto)]
 
-ghost use Rattle.std.specs.Prelude.{◌≡◌, ◌≤◌, length};
+ghost use Rattle.std.specs.Prelude.{◌≡◌, ◌≤◌, false, length, IfOk, IfErr};
 ghost use Rattle.records.specs.Steps.{line_room};
-ghost use Rattle.linkcheck.specs.Turns.{Places, flushed, RoomMade, Filled, Ready, Wiped, AnswerRoom, Answered};
+ghost use Rattle.linkcheck.specs.Turns.{Places, flushed, waits, RoomMade, Filled, Ready, Wiped, AnswerRoom, Answered};
 
+use std::io;
 use std::io::{Read, Write};
 
 // The room that the longest line takes, `line_room`.
@@ -25,32 +26,32 @@ struct State {
     done: usize,
     // How many bytes of the output's buffer are to be written.
     at: usize,
-    // Whether the run ends.
+    // Whether reading ends.
     ended: bool,
 }
 
-// Room for the second part of an output.
-fn second_part() -> [u8; 5120]
-    ensures { 5120 ≡ length result }
-{
-    [0; 5120]
+// What a run reads and writes in, and lends to its calls.
+#[derive(Drop)]
+struct Buffers {
+    input: [u8; 65536],
+    out: [u8; 65536],
+    first: [u8; 4096],
+    second: [u8; 5120],
+    work: [u8; 65536],
 }
 
 // Writes what the output has.
-fn flush<W: Write>(s: State, writer: &mut W, out: &[u8]) -> State
+#[tactic(auto, unfolding(crate::specs::Turns::flushed))]
+fn flush<W: Write>(s: State, writer: &mut W, out: &[u8]) -> io::Result<State>
     requires { s.at ≤ length out.now }
-    ensures { result ≡ flushed s result.ended }
+    ensures { IfOk result (λ r. r ≡ flushed s false) }
 {
-    let at = s.at;
-    let failed = writer.write_all(&out[..at]).is_err();
-    State {
-        from: s.from,
-        to: s.to,
-        more: s.more,
-        done: s.done,
+    writer.write_all(&out[..s.at])?;
+    Ok(State {
         at: 0,
-        ended: failed,
-    }
+        ended: false,
+        ..s
+    })
 }
 
 // Reads until the input shows a record, or ends.
@@ -58,39 +59,45 @@ fn fill<R: Read>(s: State, reader: &mut R, input: &mut [u8]) -> State
     requires { (s.from ≤ s.to) × (s.to ≤ length input.old) }
     ensures { Filled s input.old result input.new }
 {
-    let from = s.from;
-    let to = s.to;
-    records::window::to_front(input, from, to);
-    let mut end = to - from;
-    let mut more = true;
-    while more {
-        if records::window::shows_record(&input[..end]) {
-            break;
+    records::window::to_front(input, s.from, s.to);
+    let mut to = s.to - s.from;
+    let more = 'reads: loop {
+        if records::window::shows_record(&input[..to]) {
+            break true;
         }
-        let count = reader.read(&mut input[end..]).unwrap_or(0);
-        more = count != 0;
-        end += count;
-    }
+        let count = reader.read(&mut input[to..]).unwrap_or(0);
+        if count == 0 {
+            break false;
+        }
+        to += count;
+    };
     State {
         from: 0,
-        to: end,
-        more: more,
-        done: s.done,
-        at: s.at,
-        ended: s.ended,
+        to,
+        more,
+        ..s
     }
 }
 
 // Sees to it that the output has room for a line.
-fn make_room<W: Write>(s: State, writer: &mut W, out: &[u8]) -> State
+fn make_room<W: Write>(s: State, writer: &mut W, out: &[u8]) -> io::Result<State>
     requires { (s.at ≤ length out.now) × (line_room ≤ length out.now) }
-    ensures { RoomMade s out.now result }
+    ensures { IfOk result (λ r. RoomMade s out.now r) }
 {
     let left = out.len() - s.at;
     if LINE <= left {
-        return s;
+        return Ok(s);
     }
     flush(s, writer, out)
+}
+
+// Whether the program has to wait for input.
+#[tactic(auto, unfolding(crate::specs::Turns::window_of))]
+fn waits(s: State, input: &[u8]) -> bool
+    requires { (s.from ≤ s.to) × (s.to ≤ length input.now) }
+    ensures { result ≡ waits s input.now }
+{
+    s.more && !records::window::shows_record(&input[s.from..s.to])
 }
 
 // Sees to it that the input shows a record, where it has one, and that the output has room for a line.
@@ -100,24 +107,27 @@ fn ready<R: Read, W: Write>(
     writer: &mut W,
     input: &mut [u8],
     out: &[u8],
-) -> State
+) -> io::Result<State>
     requires { Places s input.old out.now }
-    ensures { Ready s input.old out.now result input.new }
+    ensures ok { IfOk result (λ r. Ready s input.old out.now r input.new) }
+    ensures err { IfErr result (λ e. length input.new ≡ length input.old) }
 {
-    let from = s.from;
-    let to = s.to;
-    let more = s.more;
-    if !more {
+    if !waits(s, input) {
         return make_room(s, writer, out);
     }
-    if records::window::shows_record(&input[from..to]) {
-        return make_room(s, writer, out);
-    }
+    // Where the write failed the run ends all the same only once the input shows a record, or ends.
     let written = flush(s, writer, out);
-    fill(written, reader, input)
+    let filled = fill(s, reader, input);
+    written?;
+    Ok(State {
+        at: 0,
+        ended: false,
+        ..filled
+    })
 }
 
-// Answers the record that the input shows.
+// Answers the record that the input shows. The buffers are lent one by one: of `Buffers` whole the contract would also have to say that
+// the input stays, and how long the others are.
 fn answer(
     s: State,
     input: &[u8],
@@ -130,32 +140,20 @@ fn answer(
     ensures { Answered s input.now out.old first.old second.old work.old
         result out.new first.new second.new work.new }
 {
-    let from = s.from;
-    let to = s.to;
-    let r = records::step::step(s.done, &input[from..to], s.at, out, first, second, work);
+    let window = &input[s.from..s.to];
+    let r = records::step::step(s.done, window, s.at, out, first, second, work);
     State {
-        from: from + r.consumed,
-        to: to,
-        more: s.more,
+        from: s.from + r.consumed,
         done: r.done,
         at: r.at,
         ended: r.ended,
+        ..s
     }
 }
 
 // Answers the records, one after another, and writes the last line.
-fn run<R: Read, W: Write>(
-    reader: &mut R,
-    writer: &mut W,
-    input: &mut [u8],
-    out: &mut [u8],
-    first: &mut [u8],
-    second: &mut [u8],
-    work: &mut [u8],
-)
-    requires { (65536 ≡ length input.old) × (65536 ≡ length out.old) × (4096 ≡ length first.old)
-        × (5120 ≡ length second.old) × (65536 ≡ length work.old) }
-    ensures { Wiped work.old work.new }
+fn run<R: Read, W: Write>(reader: &mut R, writer: &mut W, b: &mut Buffers) -> io::Result<()>
+    ensures { Wiped b.old.work b.new.work }
 {
     let mut s = State {
         from: 0,
@@ -165,39 +163,32 @@ fn run<R: Read, W: Write>(
         at: 0,
         ended: false,
     };
-    let mut ended = false;
-    while !ended {
-        let r = ready(s, reader, writer, input, out);
-        if r.ended {
-            return;
-        }
-        let t = answer(r, input, out, first, second, work);
-        ended = t.ended;
-        s = t;
+    'turns: while !s.ended {
+        let r = ready(s, reader, writer, &mut b.input, &b.out)?;
+        s = answer(
+            r,
+            &b.input,
+            &mut b.out,
+            &mut b.first,
+            &mut b.second,
+            &mut b.work,
+        );
     }
-    let last = flush(s, writer, out);
-    if last.ended {
-        return;
-    }
-    let end = lines::put_end(last.done, 0, out);
-    let _ = writer.write_all(&out[..end]);
+    let last = flush(s, writer, &b.out)?;
+    let end = lines::put_end(last.done, 0, &mut b.out);
+    writer.write_all(&b.out[..end])
 }
 
 fn main(rt: HostRuntime) {
     let mut reader = rt.stdin();
     let mut writer = rt.stdout();
-    let mut input = [0u8; 65536];
-    let mut out = [0u8; 65536];
-    let mut first = [0u8; 4096];
-    let mut second = second_part();
-    let mut work = [0u8; 65536];
-    run(
-        &mut reader,
-        &mut writer,
-        &mut input,
-        &mut out,
-        &mut first,
-        &mut second,
-        &mut work,
-    );
+    let mut buffers = Buffers {
+        input: [0; 65536],
+        out: [0; 65536],
+        first: [0; 4096],
+        second: [0; 5120],
+        work: [0; 65536],
+    };
+    // A write that fails ends the run without a word: nothing is left to write it to.
+    let _ = run(&mut reader, &mut writer, &mut buffers);
 }

@@ -1,8 +1,8 @@
 -- How many products each sum has when the polynomial in row i and column j is next. Assumes nothing.
 use mathlib.Core.Path.{◌≡◌, refl, sym, ◌∙◌}
 use mathlib.Core.Bool.{Bool, true, false, cond}
-use Prim.Native.Nat.{ℕ, zero, suc, ◌+◌, ◌*◌, ◌≤◌, ◌<◌}
-use native.Mathlib.Nat.{not-suc-le_self, le_trans, mul-le-mul_right, suc-mul}
+use Prim.Native.Nat.{ℕ, zero, suc, ◌+◌, ◌≤◌, ◌<◌}
+use native.Mathlib.Nat.{not-suc-le_self, le_trans}
 use native.Mathlib.Omega.{arith}
 use lib.Dec.{T, ltb, lt→ltb, ltb→lt}
 use Rattle.ring.proofs.Ring.{sides}
@@ -12,13 +12,6 @@ use Rattle.ring.proofs.Ring.{sides}
 abbrev pub count : Bool → ℕ → ℕ → ℕ → ℕ → ℕ
 count true ℓ i j b = cond (ltb b j) (i + 1) i
 count false ℓ i j b = cond (ltb b i) ℓ (cond (ltb i b) 0 j)
-
--- The place after (i, j).
-abbrev pub next_row : ℕ → ℕ → ℕ → ℕ
-next_row ℓ i j = cond (ltb (j + 1) ℓ) i (i + 1)
-
-abbrev pub next_column : ℕ → ℕ → ℕ
-next_column ℓ j = cond (ltb (j + 1) ℓ) (j + 1) 0
 
 -- ---- tests
 
@@ -35,31 +28,6 @@ not_less a b x y h = other (ltb a b) (λ p. not-suc-le_self a (le_trans (ltb→l
     other : (t : Bool) → (T t → ⊥) → cond t x y ≡ y
     other true p = absurd (p tt)
     other false p = refl
-
--- ---- where the walk is
-
--- The next place is that of the next polynomial.
-pub next_place : (ℓ i j : ℕ) → j < ℓ → next_row ℓ i j * ℓ + next_column ℓ j ≡ i * ℓ + j + 1
-next_place ℓ i j h =
-    sides ℓ (j + 1)
-    (λ g. rw (not_less (j + 1) ℓ i (i + 1) g, not_less (j + 1) ℓ (j + 1) 0 g) (omega (arith, suc-mul i ℓ)))
-    (λ g. rw (less (j + 1) ℓ i (i + 1) g, less (j + 1) ℓ (j + 1) 0 g) (omega arith))
-
-pub next_column_lem : (ℓ j : ℕ) → j < ℓ → next_column ℓ j < ℓ
-next_column_lem ℓ j h =
-    sides ℓ (j + 1)
-    (λ g. rw (not_less (j + 1) ℓ (j + 1) 0 g) (omega arith))
-    (λ g. rw (less (j + 1) ℓ (j + 1) 0 g) (omega arith))
-
--- Before the last polynomial the row is one of ℓ; after it, row ℓ and column 0 are next.
-pub row_inside : (ℓ i j : ℕ) → i * ℓ + j < ℓ * ℓ → i < ℓ
-row_inside ℓ i j h = sides ℓ i (λ g. absurd (omega (arith, mul-le-mul_right ℓ g))) (λ g. g)
-
-pub row_end : (ℓ i j : ℕ) → j < ℓ → i * ℓ + j ≡ ℓ * ℓ → i ≡ ℓ
-row_end ℓ i j h e =
-    sides ℓ i
-    (λ g. sides i ℓ (λ l. omega arith) (λ l. absurd (omega (arith, mul-le-mul_right ℓ l, suc-mul ℓ ℓ))))
-    (λ g. absurd (omega (arith, mul-le-mul_right ℓ g, suc-mul i ℓ)))
 
 -- ---- the counts
 
@@ -82,50 +50,40 @@ count_here true ℓ i j = not_less j j (i + 1) i (omega arith)
 count_here false ℓ i j = not_less i i ℓ (cond (ltb i i) 0 j) (omega arith) ∙ not_less i i 0 j (omega arith)
 
 -- After it that sum has one more.
-pub count_more : (columns : Bool) (ℓ i j : ℕ) → j < ℓ
-    → count columns ℓ (next_row ℓ i j) (next_column ℓ j) (cond columns j i) ≡ suc (cond columns i j)
-count_more true ℓ i j h =
-    sides ℓ (j + 1)
-    (λ g. rw (not_less (j + 1) ℓ i (i + 1) g, not_less (j + 1) ℓ (j + 1) 0 g) (not_less j 0 (i + 1 + 1) (i + 1) (omega arith) ∙ omega arith))
-    (λ g. rw (less (j + 1) ℓ i (i + 1) g, less (j + 1) ℓ (j + 1) 0 g) (less j (j + 1) (i + 1) i (omega arith) ∙ omega arith))
-count_more false ℓ i j h =
-    sides ℓ (j + 1)
-    (λ g. rw (not_less (j + 1) ℓ i (i + 1) g, not_less (j + 1) ℓ (j + 1) 0 g) (less i (i + 1) ℓ (cond (ltb (i + 1) i) 0 0) (omega arith) ∙ omega arith))
-    (λ g. rw (less (j + 1) ℓ i (i + 1) g, less (j + 1) ℓ (j + 1) 0 g)
-    (not_less i i ℓ (cond (ltb i i) 0 (j + 1)) (omega arith) ∙ not_less i i 0 (j + 1) (omega arith) ∙ omega arith))
+pub count_more : (columns : Bool) (ℓ i j : ℕ) → count columns ℓ i (j + 1) (cond columns j i) ≡ suc (cond columns i j)
+count_more true ℓ i j = less j (j + 1) (i + 1) i (omega arith) ∙ omega arith
+count_more false ℓ i j =
+    not_less i i ℓ (cond (ltb i i) 0 (j + 1)) (omega arith) ∙ not_less i i 0 (j + 1) (omega arith) ∙ omega arith
 
 -- The others have as many as they had.
-pub count_same : (columns : Bool) (ℓ i j b : ℕ) → j < ℓ → b < ℓ → (b ≡ cond columns j i → ⊥)
-    → count columns ℓ (next_row ℓ i j) (next_column ℓ j) b ≡ count columns ℓ i j b
-count_same true ℓ i j b h k other =
-    sides ℓ (j + 1)
-    (λ g.
-    let before : b < j = sides j b (λ l. absurd (other (omega arith))) (λ l. l) in
-    rw (not_less (j + 1) ℓ i (i + 1) g, not_less (j + 1) ℓ (j + 1) 0 g)
-    (not_less b 0 (i + 1 + 1) (i + 1) (omega arith) ∙ sym (less b j (i + 1) i before)))
-    (λ g. rw (less (j + 1) ℓ i (i + 1) g, less (j + 1) ℓ (j + 1) 0 g)
-    (sides (j + 1) b
+pub count_same : (columns : Bool) (ℓ i j b : ℕ) → (b ≡ cond columns j i → ⊥) → count columns ℓ i (j + 1) b ≡ count columns ℓ i j b
+count_same true ℓ i j b other =
+    sides (j + 1) b
     (λ l. not_less b (j + 1) (i + 1) i l ∙ sym (not_less b j (i + 1) i (omega arith)))
     (λ l.
     let before : b < j = sides j b (λ e. absurd (other (omega arith))) (λ e. e) in
-    less b (j + 1) (i + 1) i l ∙ sym (less b j (i + 1) i before))))
-count_same false ℓ i j b h k other =
+    less b (j + 1) (i + 1) i l ∙ sym (less b j (i + 1) i before))
+count_same false ℓ i j b other =
     sides i b
     (λ l.
     let after : i < b = sides b i (λ e. absurd (other (omega arith))) (λ e. e) in
-    sides ℓ (j + 1)
-    (λ g. rw (not_less (j + 1) ℓ i (i + 1) g, not_less (j + 1) ℓ (j + 1) 0 g)
-    (not_less b (i + 1) ℓ (cond (ltb (i + 1) b) 0 0) (omega arith) ∙ none (ltb (i + 1) b)
-    ∙ sym (not_less b i ℓ (cond (ltb i b) 0 j) l ∙ less i b 0 j after)))
-    (λ g. rw (less (j + 1) ℓ i (i + 1) g, less (j + 1) ℓ (j + 1) 0 g)
-    (not_less b i ℓ (cond (ltb i b) 0 (j + 1)) l ∙ less i b 0 (j + 1) after
-    ∙ sym (not_less b i ℓ (cond (ltb i b) 0 j) l ∙ less i b 0 j after))))
+    not_less b i ℓ (cond (ltb i b) 0 (j + 1)) l ∙ less i b 0 (j + 1) after
+    ∙ sym (not_less b i ℓ (cond (ltb i b) 0 j) l ∙ less i b 0 j after))
+    (λ l. less b i ℓ (cond (ltb i b) 0 (j + 1)) l ∙ sym (less b i ℓ (cond (ltb i b) 0 j) l))
+
+-- A row that is done is behind the next one.
+pub count_next : (columns : Bool) (ℓ i b : ℕ) → b < ℓ → count columns ℓ (i + 1) 0 b ≡ count columns ℓ i ℓ b
+count_next true ℓ i b h = not_less b 0 (i + 1 + 1) (i + 1) (omega arith) ∙ sym (less b ℓ (i + 1) i h)
+count_next false ℓ i b h =
+    sides (i + 1) b
     (λ l.
-    sides ℓ (j + 1)
-    (λ g. rw (not_less (j + 1) ℓ i (i + 1) g, not_less (j + 1) ℓ (j + 1) 0 g)
-    (less b (i + 1) ℓ (cond (ltb (i + 1) b) 0 0) (omega arith) ∙ sym (less b i ℓ (cond (ltb i b) 0 j) l)))
-    (λ g. rw (less (j + 1) ℓ i (i + 1) g, less (j + 1) ℓ (j + 1) 0 g)
-    (less b i ℓ (cond (ltb i b) 0 (j + 1)) l ∙ sym (less b i ℓ (cond (ltb i b) 0 j) l))))
+    not_less b (i + 1) ℓ (cond (ltb (i + 1) b) 0 0) l ∙ none (ltb (i + 1) b)
+    ∙ sym (not_less b i ℓ (cond (ltb i b) 0 ℓ) (omega arith) ∙ less i b 0 ℓ (omega arith)))
+    (λ l.
+    less b (i + 1) ℓ (cond (ltb (i + 1) b) 0 0) l
+    ∙ sym (sides i b
+    (λ k. not_less b i ℓ (cond (ltb i b) 0 ℓ) k ∙ not_less i b 0 ℓ (omega arith))
+    (λ k. less b i ℓ (cond (ltb i b) 0 ℓ) k)))
   where
     none : (t : Bool) → cond t 0 0 ≡ zero
     none true = refl

@@ -3,7 +3,8 @@
 use mathlib.Core.Path.{◌≡◌, refl, sym, ap, ◌∙◌}
 use mathlib.Core.Bool.{Bool, true, false, cond}
 use mathlib.Core.List.{List}
-use Prim.Native.Nat.{ℕ, suc, ◌+◌, ◌*◌, ◌≤◌, ◌<◌}
+use Prim.Native.Nat.{ℕ, suc, ◌+◌, ◌*◌, ◌<◌}
+use native.Mathlib.Nat.{zero-mul, suc-mul}
 use native.Mathlib.Omega.{arith}
 use lib.IntN.{ℤ, ◌+ℤ◌, +ℤ_idl}
 use lib.ListN.{length}
@@ -24,8 +25,7 @@ use Rattle.vectors.proofs.Amounts.{length-add, length_none}
 use Rattle.vectors.proofs.Congruent.{vector_of}
 use Rattle.matrix.specs.Product.{oriented, with_matrix}
 use Rattle.matrix.specs.Walk.{stream_at, Added, Stepped}
-use Rattle.matrix.proofs.Counts.{count, next_row, next_column, next_place, next_column_lem, row_inside, row_end, count-start, count_end, count_here}
-use Rattle.matrix.proofs.Counts.{count_more, count_same}
+use Rattle.matrix.proofs.Counts.{count, count-start, count_end, count_here, count_more, count_same, count_next}
 
 -- ---- the stream
 
@@ -59,28 +59,27 @@ stream_gives P W μ m = ap (unpack P.k P.n) (squeezed-from P.rate μ (length_of 
 abbrev part_sum : Params → List ℕ → Bool → List ℕ → List ℕ → ℕ → ℕ → Poly
 part_sum P μ columns v sums c b = plus (dot c P.n (oriented columns (matrix P μ) b) (parts P.n v)) (parts P.n sums b)
 
--- The walk when polynomial m, in row i and column j, is next.
-pub record Walking (P : Params) (μ : List ℕ) (columns : Bool) (v sums₀ : List ℕ) (m i j : ℕ) (s : Sponge) (sums : List ℕ) : Type 0 where
-  pub place : m ≡ i * P.l + j
-  pub column : j < P.l
-  pub stream : s ≡ stream_at P μ m
+-- The walk when the polynomial in row i and column j is next.
+pub record Walking (P : Params) (μ : List ℕ) (columns : Bool) (v sums₀ : List ℕ) (i j : ℕ) (s : Sponge) (sums : List ℕ) : Type 0 where
+  pub stream : s ≡ stream_at P μ (i * P.l + j)
   pub long : length sums ≡ P.l * P.n
   pub words : Below 65536 sums
   pub held : (b x : ℕ) → b < P.l → x < P.n → Cong 65536 (parts P.n sums b x) (part_sum P μ columns v sums₀ (count columns P.l i j b) b x)
 
 -- It begins with no product.
-pub walking_begun : (P : Params) → WellFormed P → (μ : List ℕ) (columns : Bool) (v sums : List ℕ) {s : Sponge} → length sums ≡ P.l * P.n
-    → Below 65536 sums → s ≡ stream_at P μ 0 → Walking P μ columns v sums 0 0 0 s sums
+pub walking_begun : (P : Params) (μ : List ℕ) (columns : Bool) (v sums : List ℕ) {s : Sponge} → length sums ≡ P.l * P.n
+    → Below 65536 sums → s ≡ stream_at P μ 0 → Walking P μ columns v sums 0 0 s sums
 unfolding dot sum
-walking_begun P W μ columns v sums long words e =
+walking_begun P μ columns v sums long words e =
     record {
-      place = omega arith;
-      column = W.some_polynomials;
-      stream = e;
+      stream = e ∙ ap (stream_at P μ) none;
       long = long;
       words = words;
       held = λ b x _ _. rw (count-start columns P.l b) (cong_of_eq (sym (+ℤ_idl (parts P.n sums b x))));
     }
+  where
+    none : 0 ≡ 0 * P.l + 0
+    none = omega (arith, zero-mul P.l)
 
 -- One product more: it may be added before what the sum began with.
 moved : (d t s : ℤ) → (d +ℤ s) +ℤ t ≡ (d +ℤ t) +ℤ s
@@ -91,20 +90,15 @@ oriented_here : (columns : Bool) (A : ℕ → ℕ → Poly) (i j : ℕ) → orie
 oriented_here true A i j = refl
 oriented_here false A i j = refl
 
-module _ {P : Params} {μ : List ℕ} {columns : Bool} {v sums₀ : List ℕ} {m i j : ℕ} {s : Sponge} {sums : List ℕ} (W : WellFormed P)
-    (h : Walking P μ columns v sums₀ m i j s sums) where
-  -- A polynomial that is left is in one of ℓ rows.
-  pub walking_row : m < P.l * P.l → i < P.l
-  walking_row more = row_inside P.l i j (omega (arith, h.place))
-
+module _ {P : Params} {μ : List ℕ} {columns : Bool} {v sums₀ : List ℕ} {i j : ℕ} {s : Sponge} {sums : List ℕ} (W : WellFormed P)
+    (h : Walking P μ columns v sums₀ i j s sums) where
   pub walking_sound : Sound s
-  walking_sound = rw h.stream (stream_sound P W μ m)
+  walking_sound = rw h.stream (stream_sound P W μ (i * P.l + j))
 
   -- Its list is that of A.
   fetched_is : unpack P.k P.n (squeezed s (polynomial_length P)) ≡ matrix_list P μ (i * P.l + j)
   fetched_is =
-      ap (λ (t : Sponge). unpack P.k P.n (squeezed t (polynomial_length P))) h.stream ∙ stream_gives P W μ m
-      ∙ ap (matrix_list P μ) h.place
+      ap (λ (t : Sponge). unpack P.k P.n (squeezed t (polynomial_length P))) h.stream ∙ stream_gives P W μ (i * P.l + j)
 
   fetched_matrix : (x : ℕ) → of_nats (unpack P.k P.n (squeezed s (polynomial_length P))) x
       ≡ oriented columns (matrix P μ) (cond columns j i) (cond columns i j) x
@@ -132,21 +126,20 @@ module _ {P : Params} {μ : List ℕ} {columns : Bool} {v sums₀ : List ℕ} {m
       same x l = mul_ext P.n _ _ _ _ (λ y _. fetched_matrix y) (λ y _. refl) l
 
   -- The place of the sum is one of ℓ.
-  target_inside : i < P.l → cond columns j i < P.l
-  target_inside row = either columns
+  target_inside : i < P.l → j < P.l → cond columns j i < P.l
+  target_inside row column = either columns
     where
       either : (t : Bool) → cond t j i < P.l
-      either true = h.column
+      either true = column
       either false = row
 
-  -- After the polynomial the next one is due.
-  pub walking_more : {s' : Sponge} {sums' : List ℕ} → m < P.l * P.l → length sums' ≡ length sums → Stepped P s columns i j v sums s' sums'
-      → Walking P μ columns v sums₀ (m + 1) (next_row P.l i j) (next_column P.l j) s' sums'
-  walking_more {s'} {sums'} more same stepped =
+  -- After the polynomial the next one of its row is due.
+  pub walking_more : {s' : Sponge} {sums' : List ℕ} → i < P.l → j < P.l → length sums' ≡ length sums → Stepped P s columns i j v sums s' sums'
+      → Walking P μ columns v sums₀ i (j + 1) s' sums'
+  walking_more {s'} {sums'} row column same stepped =
       record {
-        place = omega (arith, h.place, next_place P.l i j h.column);
-        column = next_column_lem P.l j h.column;
-        stream = stepped.stream ∙ ap (λ (t : Sponge). advanced t (polynomial_length P)) h.stream ∙ stream_next P μ m;
+        stream = stepped.stream ∙ ap (λ (t : Sponge). advanced t (polynomial_length P)) h.stream ∙ stream_next P μ (i * P.l + j)
+            ∙ ap (stream_at P μ) next;
         long = same ∙ h.long;
         words = stepped.added.words h.words;
         held = λ b x k l.
@@ -157,22 +150,33 @@ module _ {P : Params} {μ : List ℕ} {columns : Bool} {v sums₀ : List ℕ} {m
             (λ g. other b x k l (λ e. absurd (omega arith)));
       }
     where
+      next : i * P.l + j + 1 ≡ i * P.l + (j + 1)
+      next = omega arith
+
       here : (b x : ℕ) → x < P.n → b ≡ cond columns j i
-          → Cong 65536 (parts P.n sums' b x) (part_sum P μ columns v sums₀ (count columns P.l (next_row P.l i j) (next_column P.l j) b) b x)
-      here b x l e =
-          rw (e, count_more columns P.l i j h.column) (held_more stepped.added (target_inside (walking_row more)) x l)
+          → Cong 65536 (parts P.n sums' b x) (part_sum P μ columns v sums₀ (count columns P.l i (j + 1) b) b x)
+      here b x l e = rw (e, count_more columns P.l i j) (held_more stepped.added (target_inside row column) x l)
 
       other : (b x : ℕ) → b < P.l → x < P.n → (b ≡ cond columns j i → ⊥)
-          → Cong 65536 (parts P.n sums' b x) (part_sum P μ columns v sums₀ (count columns P.l (next_row P.l i j) (next_column P.l j) b) b x)
+          → Cong 65536 (parts P.n sums' b x) (part_sum P μ columns v sums₀ (count columns P.l i (j + 1) b) b x)
       other b x k l e =
-          rw (count_same columns P.l i j b h.column k e) (cong_trans (cong_of_eq (stepped.added.others b x l e)) (h.held b x k l))
+          rw (count_same columns P.l i j b e) (cong_trans (cong_of_eq (stepped.added.others b x l e)) (h.held b x k l))
 
-  -- After the last one every sum has all its products.
-  pub walking_end : P.l * P.l ≤ m → m ≤ P.l * P.l → sums ≡ with_matrix P μ columns v sums₀
+  -- After the last one of its row the first one of the next row is due.
+  pub walking_next : j ≡ P.l → Walking P μ columns v sums₀ (i + 1) 0 s sums
+  walking_next last =
+      record {
+        stream = h.stream ∙ ap (stream_at P μ) next;
+        long = h.long;
+        words = h.words;
+        held = λ b x k l. rw (count_next columns P.l i b k) (rw last at (h.held b x k l));
+      }
+    where
+      next : i * P.l + j ≡ (i + 1) * P.l + 0
+      next = omega (arith, suc-mul i P.l)
+
+  -- After the last row every sum has all its products.
+  pub walking_end : i ≡ P.l → j ≡ 0 → sums ≡ with_matrix P μ columns v sums₀
   unfolding with_matrix
-  walking_end least most =
-      let last : i * P.l + j ≡ P.l * P.l = omega (arith, h.place) in
-      let row : i ≡ P.l = row_end P.l i j h.column last in
-      let column : j ≡ 0 = omega (arith, rw row at last) in
-      vector_of P.l P.n sums _ h.long h.words (λ b x k l.
-      rw (row, column, count_end columns {b = b} k) at (h.held b x k l))
+  walking_end row column =
+      vector_of P.l P.n sums _ h.long h.words (λ b x k l. rw (row, column, count_end columns {b = b} k) at (h.held b x k l))

@@ -3,8 +3,8 @@
 use mathlib.Core.Path.{◌≡◌, refl, sym, ap, ap₂, ◌∙◌}
 use mathlib.Core.Bool.{Bool, true, false, ◌&&◌}
 use mathlib.Core.List.{List, [], ◌∷◌, ◌++◌, map}
-use Prim.Native.Nat.{ℕ, ◌+◌, ◌-◌, ◌*◌, ◌^◌, ◌≤◌, ◌<◌}
-use native.Mathlib.Nat.{suc_inj, div-one, one-mul, add-sub_cancel_left}
+use Prim.Native.Nat.{ℕ, ◌+◌, ◌-◌, ◌*◌, ◌^◌, ◌<◌}
+use native.Mathlib.Nat.{suc_inj, suc-mul, zero-mul, div-one, one-mul, add-sub_cancel_left}
 use native.Mathlib.Numerals.{add-one}
 use native.Mathlib.Omega.{arith}
 use lib.Dec.{eqb}
@@ -155,15 +155,18 @@ agrees_is {P} {sk} {a = a} room ea er =
 -- The first i are compared; the next lies at `at`.
 pub record Compared (P : Params) (b stored : List ℕ) (at i : ℕ) (all : Bool) : Type 0 where
   pub place_is : at ≡ length_of P i (P.k - P.t)
-  pub within : i ≤ P.l
   pub so_far : all ≡ same (take at stored) (joined i (dropped_bits P b))
 
-pub compared_none : (P : Params) (b stored : List ℕ) → Compared P b stored 0 0 true
+pub compared_none : (P : Params) (b stored : List ℕ) (m : ℕ) → Compared P b stored (0 * m) 0 true
 unfolding joined same
-compared_none P b stored = record { place_is = sym (length_none P (P.k - P.t)); within = omega arith; so_far = refl }
+compared_none P b stored m = rw (zero-mul m) record { place_is = sym (length_none P (P.k - P.t)); so_far = refl }
 
-module _ {P : Params} {b stored : List ℕ} {v m at i : ℕ} {all : Bool} (room : AgreementRoom P b stored v m)
-    (done : Compared P b stored at i all) where
+module _ {P : Params} {b stored : List ℕ} {v m i : ℕ} {all : Bool} (room : AgreementRoom P b stored v m)
+    (done : Compared P b stored (i * m) i all) where
+  -- The place of the next one.
+  abbrev pub at : ℕ
+  at = i * m
+
   -- The next polynomial lies within the stored ones.
   pub next_placed : i < P.l → Placed at m (length stored)
   next_placed h =
@@ -172,26 +175,25 @@ module _ {P : Params} {b stored : List ℕ} {v m at i : ℕ} {all : Bool} (room 
 
   -- It is compared.
   pub compared_more : {r : Bool} → i < P.l → r ≡ same (take (at + m - at) (drop at stored)) (dropped_bits P b i)
-      → Compared P b stored (at + m) (i + 1) (all && r)
+      → Compared P b stored ((i + 1) * m) (i + 1) (all && r)
   unfolding joined
   compared_more {r} h er =
       let w : ℕ = P.k - P.t in
       let W = room.well in
+      let next : (i + 1) * m ≡ at + m = rw (add-one i) (suc-mul i m) in
       let each : (j : ℕ) → length (dropped_bits P b j) ≡ length_of P 1 w = length_dropped P W b in
       let sizes : length (take at stored) ≡ length (joined i (dropped_bits P b))
       = length-take-le at stored (omega (arith, (next_placed h).fits))
       ∙ sym (length-joined i (length_of P 1 w) (dropped_bits P b) (λ j _. each j) ∙ length_times P i w ∙ sym done.place_is) in
       record {
-        place_is = omega (arith, done.place_is, room.bytes_are, length-add P i 1 w);
-        within = omega arith;
-        so_far = rw (add-one i, take-add at m stored)
+        place_is = next ∙ omega (arith, done.place_is, room.bytes_are, length-add P i 1 w);
+        so_far = rw (next, add-one i, take-add at m stored)
             (ap₂ ◌&&◌ done.so_far (er ∙ ap (λ (k : ℕ). same (take k (drop at stored)) (dropped_bits P b i)) (add-sub_cancel_left at m))
             ∙ sym (same_parts (take at stored) (joined i (dropped_bits P b)) (take m (drop at stored)) (dropped_bits P b i) sizes));
       }
 
   -- All are.
-  pub compared_all : P.l ≤ i → all ≡ same stored (joined P.l (dropped_bits P b))
-  compared_all h =
-      let last : i ≡ P.l = omega (arith, done.within) in
+  pub compared_all : i ≡ P.l → all ≡ same stored (joined P.l (dropped_bits P b))
+  compared_all last =
       let end : at ≡ length stored = done.place_is ∙ ap (λ (j : ℕ). length_of P j (P.k - P.t)) last ∙ sym room.stored_long in
       done.so_far ∙ ap₂ (λ (l : List ℕ) (j : ℕ). same l (joined j (dropped_bits P b))) (take_all at stored (omega (arith, end))) last

@@ -29,6 +29,7 @@ use Rattle.kindi.specs.Noise.{key_noise, noise, noises}
 use Rattle.kindi.proofs.Padding.{length-masked}
 use Rattle.kindi.proofs.Strings.{coefficient_packed}
 use Rattle.cipher_terms.proofs.Masks.{low_there, length_stream, stream_below}
+use Rattle.vectors.proofs.Amounts.{part_length}
 use Rattle.noise.specs.Rooms.{value_of, Kept}
 use Rattle.noise.specs.Terms.{key_noise_in, noise_in, noises_from}
 use Rattle.noise.proofs.Products.{of_ints_table}
@@ -64,6 +65,12 @@ secret_seed_part P sk {a} e =
     ap (λ (m : ℕ). take P.seed (drop (m + P.seed) sk)) e
 
 -- ---- the noise of the streams
+
+-- The mask's place has the mask's length.
+pub mask_length : (P : Params) (S : List ℕ) (a e : ℕ) → a ≡ low_length P → e ≡ low_length P + padded_length P
+    → length S ≡ coins_stream_length P → length (take (e - a) (drop a S)) ≡ padded_length P
+mask_length P S a e ea ee long =
+    rw (ee, ea) (part_length (low_length P) (padded_length P) S (omega (arith, long)))
 
 -- X of the streams is X of the keys.
 key-noise_is : (P : Params) → WellFormed P → (sk coins b Z : List ℕ) (i x : ℕ) → b ≡ value_of P sk → i < P.l → x < P.n
@@ -139,37 +146,36 @@ noise_made n D M e {zeros} {errors} {acc} x h ez ee ea =
     ap (λ (z : ℤ). z +ℤ D x) rest ∙ +ℤ_comm (e x -ℤ M x) (D x) ∙ sym (+ℤ_assoc (D x) (e x) (neg_ℤ (M x)))
 
 -- What `accumulate` leaves is the noise of the streams.
-pub accumulated : (P : Params) (b coins secrets stream : List ℕ) (a k h : ℕ) {zeros errors x rest acc : List ℤ}
-    → a ≡ low_length P → k ≡ padded_length P → h ≡ high_length P → zeros ≡ replicate P.n (pos 0)
-    → errors ≡ tabulate P.n (plus (of_ints zeros) (dot P.l P.n (small_in P (take (a + k - a) (drop a stream))) (small_in P secrets)))
-    → x ≡ tabulate P.n (small_in P (take (a + k - a) (drop a stream)) P.l)
+pub accumulated : (P : Params) (b coins secrets stream : List ℕ) (a e h : ℕ) {zeros errors x rest acc : List ℤ}
+    → a ≡ low_length P → e ≡ low_length P + padded_length P → h ≡ high_length P → zeros ≡ replicate P.n (pos 0)
+    → errors ≡ tabulate P.n (plus (of_ints zeros) (dot P.l P.n (small_in P (take (e - a) (drop a stream))) (small_in P secrets)))
+    → x ≡ tabulate P.n (small_in P (take (e - a) (drop a stream)) P.l)
     → rest ≡ tabulate (length errors) (minus (of_ints x) (of_ints errors))
     → acc ≡ tabulate P.n (plus (of_ints rest) (dot P.l P.n (key_noise_in P stream secrets b) (ephemeral_by P coins
-    (take (length stream - (a + k)) (drop (a + k) stream)) (take (length stream - (a + k + h)) (drop (a + k + h) stream)))))
+    (take (length stream - e) (drop e stream)) (take (length stream - (e + h)) (drop (e + h) stream)))))
     → acc ≡ tabulate P.n (noise_in P b coins secrets stream)
 unfolding noise_in
-accumulated P b coins secrets stream a k h {zeros} {errors} {x} {rest} {acc} ea ek eh ez ee ex er e =
+accumulated P b coins secrets stream a e h {zeros} {errors} {x} {rest} {acc} ea ee eh ez is_errors is_x is_rest is_acc =
     let n : ℕ = P.n in
     let L : ℕ = low_length P in
     let K : ℕ = padded_length P in
-    let mid : List ℕ = take (a + k - a) (drop a stream) in
-    let high : List ℕ = take (length stream - (a + k)) (drop (a + k) stream) in
-    let last : List ℕ = take (length stream - (a + k + h)) (drop (a + k + h) stream) in
+    let mid : List ℕ = take (e - a) (drop a stream) in
+    let high : List ℕ = take (length stream - e) (drop e stream) in
+    let last : List ℕ = take (length stream - (e + h)) (drop (e + h) stream) in
     let of : List ℕ → List ℕ → List ℕ → List ℤ
     = λ m g s. tabulate n
     (minus (plus (dot P.l n (key_noise_in P stream secrets b) (ephemeral_by P coins g s)) (small_in P m P.l))
     (dot P.l n (small_in P m) (small_in P secrets))) in
-    let long : length errors ≡ n = ap length ee ∙ length-tabulate n _ in
+    let long : length errors ≡ n = ap length is_errors ∙ length-tabulate n _ in
     let less : rest ≡ tabulate n (minus (of_ints (tabulate n (small_in P mid P.l))) (of_ints errors))
-    = er ∙ ap₂ (λ (m : ℕ) (l : List ℤ). tabulate m (minus (of_ints l) (of_ints errors))) long ex in
-    let both : a + k ≡ L + K = ap₂ ◌+◌ ea ek in
-    e ∙ tabulate_ext n _ _ (λ y l.
+    = is_rest ∙ ap₂ (λ (m : ℕ) (l : List ℤ). tabulate m (minus (of_ints l) (of_ints errors))) long is_x in
+    is_acc ∙ tabulate_ext n _ _ (λ y l.
     noise_made n (dot P.l n (key_noise_in P stream secrets b) (ephemeral_by P coins high last))
-    (dot P.l n (small_in P mid) (small_in P secrets)) (small_in P mid P.l) y l ez ee less)
-    ∙ ap₂ (λ (m g : List ℕ). of m g last) (ap₂ (λ (i j : ℕ). take i (drop j stream)) (add-sub_cancel_left a k ∙ ek) ea)
-    (take_rest (a + k) stream ∙ ap (λ (i : ℕ). drop i stream) both)
+    (dot P.l n (small_in P mid) (small_in P secrets)) (small_in P mid P.l) y l ez is_errors less)
+    ∙ ap₂ (λ (m g : List ℕ). of m g last) (ap₂ (λ (i j : ℕ). take i (drop j stream)) (ap₂ ◌-◌ ee ea ∙ add-sub_cancel_left L K) ea)
+    (take_rest e stream ∙ ap (λ (i : ℕ). drop i stream) ee)
     ∙ ap (of (take K (drop L stream)) (drop (L + K) stream))
-    (take_rest (a + k + h) stream ∙ ap (λ (i : ℕ). drop i stream) (ap₂ ◌+◌ both eh))
+    (take_rest (e + h) stream ∙ ap (λ (i : ℕ). drop i stream) (ap₂ ◌+◌ ee eh))
 
 -- The streams one after the other.
 pub streams_split : (P : Params) (b coins streams : List ℕ) {s : ℕ} → s ≡ secrets_length P

@@ -5,7 +5,7 @@ use Prim.Native.Nat.{ℕ, zero, suc, ◌+◌, ◌-◌, ◌*◌, ◌%◌, ◌^◌
 use native.Mathlib.Nat.{not-suc-le-zero, le_of_suc-le-suc}
 use native.Mathlib.Omega.{arith}
 use lib.IntN.{pos, ◌+ℤ◌, ◌-ℤ◌}
-use lib.ListN.{length, get_or, take, replicate, length-take}
+use lib.ListN.{length, get_or, take, replicate}
 use Rattle.keccak.specs.Lists.{tabulate}
 use Rattle.keccak.proofs.Entries.{tabulate_at, length-tabulate}
 use Rattle.bits.specs.Bits.{low_bits}
@@ -44,10 +44,6 @@ twice_table n f g small ex ey ez =
     (length-tabulate n f)
     ∙ tabulate_ext n _ _ (λ k h.
     ap₂ (λ (a b : ℕ). residue 65536 (pos (a + b))) (tabulate_at n f k 0 h) (tabulate_at n (λ j. 2 * g j) k 0 h) ∙ residue-small (small k))
-
--- The first n of 512 entries.
-pub prefix_long : {A : Type 0} (n : ℕ) (xs : List A) → length xs ≡ 512 → n ≤ 512 → length (take n xs) ≡ n
-prefix_long n xs e h = simp length-take (omega arith)
 
 -- X from tables of values.
 pub combined_table : (P : Params) (n : ℕ) (f g h : ℕ → ℕ) {w r low : List ℕ} → w ≡ tabulate n f → r ≡ tabulate n g → low ≡ tabulate n h

@@ -36,13 +36,10 @@ pub fn agree(p: Params, b: &[u8], stored: &[u8], values: &mut [u16], dropped: &m
 {
     let part = dropped.len();
     let mut all = true;
-    let mut at = 0;
-    let mut i = 0;
-    while i < p.l {
+    for i in 0..p.l {
+        let at = i * part;
         let agrees = polynomial_agrees(p, b, i, &stored[at..at + part], values, dropped);
-        all = all & agrees;
-        at += part;
-        i += 1;
+        all &= agrees;
     }
     all
 }

@@ -10,11 +10,6 @@ ghost use Rattle.noise.specs.Terms.{key_noise_in, combined};
 use kindi::Params;
 use vectors::lengths;
 
-// Room for the values of a polynomial.
-pub fn words() -> [u16; 512] {
-    [0; 512]
-}
-
 // Polynomial m of a string, w bits a coefficient.
 pub fn values(p: Params, w: u32, bytes: &[u8], m: usize, dst: &mut [u16])
     requires { StringRoom p w bytes.now m (length dst.old) }
@@ -30,31 +25,26 @@ pub fn small(p: Params, bytes: &[u8], m: usize, dst: &mut [i16])
     ensures { dst.new ≡ tabulate p.n (small_in p bytes.now m) }
 {
     let n = p.n;
-    let mut v = words();
+    let mut v = [0u16; 512];
     values(p, lengths::width(p), bytes, m, &mut v[..n]);
     signed::centre(&v[..n], p.p, dst);
 }
 
-// s_1 from the coins and a string that begins with h; v and h have room for values.
-fn first_with(p: Params, coins: &[u8], high: &[u8], v: &mut [u16], h: &mut [u16], dst: &mut [i16])
-    requires { (FirstRoom p coins.now high.now (length dst.old)) × (length v.old ≡ p.n) × (length h.old ≡ p.n) }
-    ensures { dst.new ≡ tabulate p.n (first_in p coins.now high.now) }
-{
-    values(p, 1, coins, 0, v);
-    values(p, lengths::width(p) - 1, high, 0, h);
-    vectors::raise(h, 1);
-    ring::poly::add(v, h);
-    signed::centre(v, p.p, dst);
-}
-
+// s_1 from the coins and a string that begins with h.
 fn first(p: Params, coins: &[u8], high: &[u8], dst: &mut [i16])
     requires { FirstRoom p coins.now high.now (length dst.old) }
     ensures { dst.new ≡ tabulate p.n (first_in p coins.now high.now) }
 {
     let n = p.n;
-    let mut v = words();
-    let mut h = words();
-    first_with(p, coins, high, &mut v[..n], &mut h[..n], dst);
+    let mut v = [0u16; 512];
+    let mut h = [0u16; 512];
+    let v = &mut v[..n];
+    let h = &mut h[..n];
+    values(p, 1, coins, 0, v);
+    values(p, lengths::width(p) - 1, high, 0, h);
+    vectors::raise(h, 1);
+    ring::poly::add(v, h);
+    signed::centre(v, p.p, dst);
 }
 
 // s_1, or polynomial i of s_2 to s_ℓ.
@@ -83,34 +73,10 @@ fn combine(p: Params, w: &[u16], r: &[u16], low: &[u16], dst: &mut [i16])
     ensures { dst.new ≡ combined p w.now r.now low.now }
 {
     let half = vectors::power(p.t - 1);
-    let mut k = 0;
-    while k < dst.len() {
-        dst[k] = key_noise_at(w[k], half, r[k], p.p, low[k]);
-        k += 1;
+    // By index: of a list that is written through a zip the proof would know its length alone.
+    for (k, x) in dst.iter_mut().enumerate() {
+        *x = key_noise_at(w[k], half, r[k], p.p, low[k]);
     }
-}
-
-// X_i; w, r and v have room for values.
-fn key_noise_with(
-    p: Params,
-    stream: &[u8],
-    secrets: &[u8],
-    b: &[u8],
-    i: usize,
-    w: &mut [u16],
-    r: &mut [u16],
-    v: &mut [u16],
-    dst: &mut [i16],
-)
-    requires { (KeyNoiseRoom p stream.now secrets.now b.now i (length dst.old))
-        × (length w.old ≡ p.n) × (length r.old ≡ p.n) × (length v.old ≡ p.n) }
-    ensures { dst.new ≡ tabulate p.n (key_noise_in p stream.now secrets.now b.now i) }
-{
-    values(p, p.t, stream, i, w);
-    values(p, lengths::width(p), secrets, p.l + i, r);
-    values(p, p.k, b, i, v);
-    bits::reduce(v, p.t);
-    combine(p, w, r, v, dst);
 }
 
 // X_i.
@@ -119,18 +85,15 @@ pub fn key_noise(p: Params, stream: &[u8], secrets: &[u8], b: &[u8], i: usize, d
     ensures { dst.new ≡ tabulate p.n (key_noise_in p stream.now secrets.now b.now i) }
 {
     let n = p.n;
-    let mut w = words();
-    let mut r = words();
-    let mut v = words();
-    key_noise_with(
-        p,
-        stream,
-        secrets,
-        b,
-        i,
-        &mut w[..n],
-        &mut r[..n],
-        &mut v[..n],
-        dst,
-    );
+    let mut w = [0u16; 512];
+    let mut r = [0u16; 512];
+    let mut v = [0u16; 512];
+    let w = &mut w[..n];
+    let r = &mut r[..n];
+    let v = &mut v[..n];
+    values(p, p.t, stream, i, w);
+    values(p, lengths::width(p), secrets, p.l + i, r);
+    values(p, p.k, b, i, v);
+    bits::reduce(v, p.t);
+    combine(p, w, r, v, dst);
 }

@@ -42,11 +42,6 @@ pub fn public_value(p: Params, sk: &[u8], b: &mut [u8], work: &mut [u8])
     );
 }
 
-// Room for the bytes of a polynomial.
-fn bytes() -> [u8; 1024] {
-    [0; 1024]
-}
-
 // Whether the stored public key is that of μ and γ; b is what `public_value` leaves. It stands apart from that, with two
 // callers, so that the compiler keeps it apart and its arrays do not lie on the stack while b is computed.
 pub fn agree(p: Params, sk: &[u8], b: &[u8]) -> bool
@@ -56,8 +51,8 @@ pub fn agree(p: Params, sk: &[u8], b: &[u8]) -> bool
     let n = p.n;
     let stored = lengths::stored(p);
     let part = lengths::length_of(p, 1, p.k - p.t);
-    let mut values = factors::words();
-    let mut dropped = bytes();
+    let mut values = [0u16; 512];
+    let mut dropped = [0u8; 1024];
     agreement::agree(p, b, &sk[..stored], &mut values[..n], &mut dropped[..part])
 }
 

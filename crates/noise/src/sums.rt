@@ -13,16 +13,6 @@ use crate::{Measured, factors};
 use kindi::Params;
 use vectors::lengths;
 
-fn factor() -> [i16; 512] {
-    [0; 512]
-}
-
-fn zeros() -> [i32; 512]
-    ensures { result ≡ replicate 512 (pos 0) }
-{
-    [0; 512]
-}
-
 // Adds the sum of e_j·r_j; x and s have room for factors.
 fn add_errors(
     p: Params,
@@ -36,12 +26,10 @@ fn add_errors(
     ensures { acc.new ≡ tabulate p.n (plus (of_ints acc.old)
         (dot p.l p.n (small_in p masked.now) (small_in p secrets.now))) }
 {
-    let mut j = 0;
-    while j < p.l {
+    for j in 0..p.l {
         factors::small(p, masked, j, x);
         factors::small(p, secrets, j, s);
         signed::multiply_add(acc, x, s);
-        j += 1;
     }
 }
 
@@ -49,7 +37,7 @@ fn less(x: i16, y: i32) -> i32
     requires { nat_abs x + nat_abs y < 2 ^ 31 }
     ensures { result ≡ x -ℤ y }
 {
-    x as i32 - y
+    i32::from(x) - y
 }
 
 // x less acc.
@@ -57,10 +45,9 @@ fn subtract_from(x: &[i16], acc: &mut [i32])
     requires { (length x.now ≡ length acc.old) × (largest x.now + largest acc.old < 2 ^ 31) }
     ensures { acc.new ≡ tabulate (length acc.old) (minus (of_ints x.now) (of_ints acc.old)) }
 {
-    let mut k = 0;
-    while k < acc.len() {
-        acc[k] = less(x[k], acc[k]);
-        k += 1;
+    // By index: of a list that is written through a zip the proof would know its length alone.
+    for (k, a) in acc.iter_mut().enumerate() {
+        *a = less(x[k], *a);
     }
 }
 
@@ -82,12 +69,10 @@ fn add_keys(
         (dot p.l p.n (key_noise_in p stream.now secrets.now b.now)
         (ephemeral_by p coins.now high.now rest.now))) }
 {
-    let mut i = 0;
-    while i < p.l {
+    for i in 0..p.l {
         factors::key_noise(p, stream, secrets, b, i, x);
         factors::ephemeral(p, coins, high, rest, i, s);
         signed::multiply_add(acc, x, s);
-        i += 1;
     }
 }
 
@@ -105,11 +90,12 @@ fn accumulate(
     requires { (NoiseRoom p b.now coins.now secrets.now stream.now) × (length x.old ≡ p.n) × (length s.old ≡ p.n) × (acc.old ≡ replicate p.n (pos 0)) }
     ensures { acc.new ≡ tabulate p.n (noise_in p b.now coins.now secrets.now stream.now) }
 {
-    let at = lengths::low(p);
-    let end = at + lengths::padded(p);
+    let mask = lengths::mask(p);
+    let end = mask.end;
     let rest = end + lengths::high(p);
-    add_errors(p, &stream[at..end], secrets, x, s, acc);
-    factors::small(p, &stream[at..end], p.l, x);
+    let masked = &stream[mask];
+    add_errors(p, masked, secrets, x, s, acc);
+    factors::small(p, masked, p.l, x);
     subtract_from(x, acc);
     add_keys(
         p,
@@ -130,7 +116,7 @@ fn quarter(p: Params) -> i32
     requires { WellFormed p }
     ensures { result ≡ pos (modulus p / 4) }
 {
-    vectors::power(p.k - 2) as i32
+    i32::from(vectors::power(p.k - 2))
 }
 
 // Whether the noise lies strictly between −q/4 and q/4, and its largest absolute value; streams are that of γ, then that of the
@@ -142,9 +128,9 @@ pub fn sizes(p: Params, b: &[u8], coins: &[u8], streams: &[u8]) -> Measured
 {
     let n = p.n;
     let secrets = lengths::secrets(p);
-    let mut x = factor();
-    let mut s = factor();
-    let mut acc = zeros();
+    let mut x = [0i16; 512];
+    let mut s = [0i16; 512];
+    let mut acc = [0i32; 512];
     accumulate(
         p,
         b,
@@ -156,10 +142,7 @@ pub fn sizes(p: Params, b: &[u8], coins: &[u8], streams: &[u8]) -> Measured
         &mut acc[..n],
     );
     let end = quarter(p);
-    let clear = signed::all_between(&acc[..n], 0 - end, end);
+    let clear = signed::all_between(&acc[..n], -end, end);
     let largest = signed::largest(&acc[..n]);
-    Measured {
-        clear: clear,
-        largest: largest,
-    }
+    Measured { clear, largest }
 }

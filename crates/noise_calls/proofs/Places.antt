@@ -8,6 +8,8 @@ use native.Mathlib.Omega.{arith}
 use borrow.Author.Tests.{leb-true}
 use lib.Dec.{eqb, leb}
 use lib.ListN.{length, take, drop}
+use Rattle.std.specs.Bool.{then_some}
+use Rattle.std.specs.Option.{is_some, unwrap_or}
 use Rattle.keccak.specs.Lists.{tabulate}
 use Rattle.keccak.proofs.Entries.{tabulate_at}
 use Rattle.kindi.specs.declared.Params.{Params}
@@ -57,11 +59,12 @@ pub coins_within : (k long i : ℕ) → i < long / k → i * k + k ≤ long
 coins_within k long i h = omega (arith, parts_within k h, div-mul-le_self long k)
 
 -- They are the part that the code reads.
-pub coins_part : (P : Params) (list : List ℕ) (i at : ℕ) → at ≡ i * P.coins → take (at + P.coins - at) (drop at list) ≡ coins_at P list i
+pub coins_part : (P : Params) (list : List ℕ) (i : ℕ)
+    → take (i * P.coins + P.coins - i * P.coins) (drop (i * P.coins) list) ≡ coins_at P list i
 unfolding coins_at
-coins_part P list i at e =
-    let count : at + P.coins - at ≡ P.coins = omega arith in
-    ap₂ (λ (n a : ℕ). take n (drop a list)) count e
+coins_part P list i =
+    let count : i * P.coins + P.coins - i * P.coins ≡ P.coins = omega arith in
+    ap (λ (n : ℕ). take n (drop (i * P.coins) list)) count
 
 -- ---- the loop of the search
 
@@ -70,30 +73,28 @@ abbrev clear_at : Params → List ℕ → List ℕ → List ℕ → ℕ → Bool
 clear_at P sk message list i = clear_under P sk (coins_at P list i) message
 
 -- After i turns.
-pub record Searching (P : Params) (sk message list : List ℕ) (at i : ℕ) (found : Bool) (place : ℕ) : Type 0 where
-  pub place_is : at ≡ i * P.coins
+pub record Searching (P : Params) (sk message list : List ℕ) (i : ℕ) (found : Bool) (place : ℕ) : Type 0 where
   pub within : i ≤ length list / P.coins
   pub tried : Tried (clear_at P sk message list) i found place
 
-pub search_starts : (P : Params) (sk message list : List ℕ) → Searching P sk message list 0 0 false 0
-search_starts P sk message list = record { place_is = omega arith; within = omega arith; tried = tried_none (clear_at P sk message list) 0 }
+pub search_starts : (P : Params) (sk message list : List ℕ) → Searching P sk message list 0 false 0
+search_starts P sk message list = record { within = omega arith; tried = tried_none (clear_at P sk message list) 0 }
 
-module _ {P : Params} {sk message list : List ℕ} {at i : ℕ} {found : Bool} {place : ℕ} (so_far : Searching P sk message list at i found place) where
+module _ {P : Params} {sk message list : List ℕ} {i : ℕ} {found : Bool} {place : ℕ} (so_far : Searching P sk message list i found place) where
   -- A turn more.
   pub search_goes_on : {clear : Bool} {place' : ℕ} → i < length list / P.coins
-      → clear ≡ clear_under P sk (take (at + P.coins - at) (drop at list)) message → place' ≡ cond found place i
-      → Searching P sk message list (at + P.coins) (i + 1) (found || clear) place'
+      → clear ≡ clear_under P sk (take (i * P.coins + P.coins - i * P.coins) (drop (i * P.coins) list)) message → place' ≡ cond found place i
+      → Searching P sk message list (i + 1) (found || clear) place'
   search_goes_on {clear} {place'} h is-clear is-place =
-      let part = ap (λ (c : List ℕ). clear_under P sk c message) (coins_part P list i at so_far.place_is) in
+      let part = ap (λ (c : List ℕ). clear_under P sk c message) (coins_part P list i) in
       record {
-        place_is = omega (arith, so_far.place_is);
         within = omega arith;
         tried = rw is-place (tried_more (clear_at P sk message list) i place so_far.tried (is-clear ∙ part));
       }
 
   -- The next coins lie within the list.
-  pub coins_there : i < length list / P.coins → at + P.coins ≤ length list
-  coins_there h = omega (arith, so_far.place_is, coins_within P.coins (length list) i h)
+  pub coins_there : i < length list / P.coins → i * P.coins + P.coins ≤ length list
+  coins_there h = coins_within P.coins (length list) i h
 
   -- All turns.
   pub search_ends : length list / P.coins ≤ i → Search (clear_places P sk message list) found place
@@ -101,6 +102,16 @@ module _ {P : Params} {sk message list : List ℕ} {at i : ℕ} {found : Bool} {
   search_ends h =
       let all : i ≡ length list / P.coins = omega (arith, so_far.within) in
       rw (← all) (tried_all (clear_at P sk message list) i place so_far.tried)
+
+-- None is found, whatever place stands there.
+pub search_none : {places : List Bool} {found : Bool} {place : ℕ} → found ≡ false → Search places found place → Search places false 0
+search_none none tried = record { found_is = sym none ∙ tried.found_is; at_clear = λ e. never (cc) }
+
+-- What is given: the place, where one is found.
+pub search_done : {places : List Bool} (found : Bool) {place : ℕ} → Search places found place
+    → Search places (is_some (then_some found place)) (unwrap_or (then_some found place) 0)
+search_done true tried = tried
+search_done false tried = search_none refl tried
 
 -- There are at most 8 turns.
 pub search_count : {P : Params} {sk b message list work : List ℕ} → SearchRoom P sk b message list work → length list / P.coins ≤ 8
@@ -122,14 +133,10 @@ search_room {P} {list = list} at room h l kept = record {
 
 -- ---- b
 
--- The polynomials of a public key, in full, fit into 3072 bytes.
-value_fits : (P : Params) → WellFormed P → length_of P P.l P.k ≤ 3072
+-- The polynomials of a public key, in full, fit into the 3072 bytes that the calls have for them.
+pub value_fits : (P : Params) → WellFormed P → length_of P P.l P.k ≤ 3072
 unfolding length_of
 value_fits P w =
     let part : P.n / 8 * P.k ≤ 2 * P.n = omega (arith, mul-le-mul_left (P.n / 8) w.word, w.eights) in
     let all : P.l * (P.n / 8 * P.k) ≤ P.l * (2 * P.n) = mul-le-mul_left P.l part in
     omega (arith, all, mul_left_comm P.l 2 P.n, w.vector)
-
--- A room of 3072 bytes has place for them.
-pub value_room : (P : Params) (room : List ℕ) {n : ℕ} → WellFormed P → n ≡ length_of P P.l P.k → length room ≡ 3072 → n ≤ length room
-value_room P room w e l = omega (arith, value_fits P w)

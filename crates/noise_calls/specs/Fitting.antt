@@ -5,6 +5,7 @@ use Rattle.kindi.specs.declared.Params.{Params}
 use Rattle.kindi.specs.Params.{padded_length, noise_work}
 use Rattle.kindi.specs.Answers.{Answer, answered, refuse_if, agrees, clear_under, largest_under, clear_places, some, Size}
 use Rattle.kindi.specs.Calls.{number, returned, Place}
+use Rattle.noise.specs.declared.Measured.{Measured}
 use Rattle.noise.specs.Rooms.{ValueRoom, KeyRoom, Kept}
 use Rattle.noise_calls.specs.Status.{whole_coins}
 
@@ -26,6 +27,13 @@ pub record NoiseRoom (P : Params) (sk coins message b work : List ℕ) : Type 0 
   pub room : ValueRoom P sk b work
   pub coins_long : length coins ≡ P.coins
   pub message_fits : length message < padded_length P
+
+-- What is measured, as the call returns it.
+abbrev pub clear_flag : Measured → ℕ
+clear_flag measured = cond measured.clear 1 0
+
+abbrev pub largest_value : Measured → ℕ
+largest_value measured = measured.largest
 
 -- What the noise leaves of its returned values.
 pub record SizeExit (answer : Answer Size) (status clear' largest' : ℕ) : Type 0 where

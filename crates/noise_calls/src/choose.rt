@@ -1,12 +1,15 @@
 // The call of the coin choice (01, "Noise").
-ghost use Rattle.std.specs.Prelude.{◌≡◌, cond, ◌<◌};
-ghost use Rattle.kindi.specs.Params.{WellFormed};
+ghost use Rattle.std.specs.Prelude.{◌≡◌, ◌<◌, is_some, unwrap_or};
+ghost use Rattle.calls.specs.Refusals.{status_of, value_of};
+ghost use Rattle.kindi.specs.Params.{WellFormed, Parameters, of_set, noise_work};
+ghost use Rattle.kindi.specs.Calls.{work_after};
 ghost use Rattle.kindi.specs.Answers.{clear_places};
 ghost use Rattle.noise_calls.specs.Status.{whole_coins, choose_status};
 ghost use Rattle.noise_calls.specs.Fitting.{choose_fitting, ChooseRoom, PlaceExit, SearchRoom, Search};
 ghost use Rattle.noise_calls.specs.Exits.{ChooseExit};
 
-use crate::measure;
+use bits::select;
+use calls::refusal::Refusal;
 use calls::{checks, sizes, work};
 use kindi::Params;
 use vectors::lengths;
@@ -20,53 +23,49 @@ fn whole_coins(coins: usize, long: usize) -> bool
     (long % coins == 0) & ((1 <= count) & (count <= 8))
 }
 
-// The status, from the set and the lengths alone.
-fn status(set: u32, p: Params, sk: usize, message: usize, list: usize, work: usize) -> u32
+// The checks, of the set and the lengths alone.
+#[tactic(auto, using(calls::proofs::Refused::refusals), unfolding(crate::specs::Status::choose_status))]
+fn check(
+    set: u32,
+    p: Params,
+    sk: usize,
+    message: usize,
+    list: usize,
+    work: usize,
+) -> Result<(), Refusal>
     requires { WellFormed p }
-    ensures { result ≡ choose_status set p sk message list work }
+    ensures { status_of result ≡ choose_status set p sk message list work }
 {
-    let r = checks::refuse_if(work < sizes::noise_work(p), 4, 0);
-    let r = checks::refuse_if(message >= lengths::padded(p), 3, r);
-    let r = checks::refuse_if(!whole_coins(p.coins, list), 2, r);
-    let r = checks::refuse_if(sk != sizes::secret_key(p), 2, r);
-    checks::refuse_if(!checks::is_set(set), 1, r)
+    checks::require(checks::is_set(set), Refusal::NoSuchSet)?;
+    checks::require(sk == sizes::secret_key(p), Refusal::WrongInputLen)?;
+    checks::require(whole_coins(p.coins, list), Refusal::WrongInputLen)?;
+    checks::require(message < lengths::padded(p), Refusal::MessageTooLong)?;
+    checks::require(work >= sizes::noise_work(p), Refusal::WrongOutputLen)
 }
 
-// Whether some coins are clear, and the place of the first such.
-#[derive(Clone, Copy)]
-pub struct Found {
-    pub some: bool,
-    pub place: u32,
-}
-
-fn first_place(found: bool, place: u32, i: u32) -> u32
-    ensures { result ≡ cond found place i }
-{
-    if found { place } else { i }
-}
-
-// Measures all coins of the list, whatever is found.
-fn search(p: Params, sk: &[u8], b: &[u8], message: &[u8], list: &[u8], work: &mut [u8]) -> Found
+// The place of the first clear coins of the list. All are measured, whatever is found, before a branch on it.
+fn search(
+    p: Params,
+    sk: &[u8],
+    b: &[u8],
+    message: &[u8],
+    list: &[u8],
+    work: &mut [u8],
+) -> Option<u32>
     requires { SearchRoom p sk.now b.now message.now list.now work.old }
-    ensures { Search (clear_places p sk.now message.now list.now) result.some result.place }
+    ensures { Search (clear_places p sk.now message.now list.now) (is_some result) (unwrap_or result 0) }
 {
     let coins = p.coins;
     let count = list.len() / coins;
     let mut found = false;
     let mut place = 0;
-    let mut at = 0;
-    let mut i = 0;
-    while (i as usize) < count {
+    for i in 0..count {
+        let at = i * coins;
         let measured = noise::measure(p, sk, b, &list[at..at + coins], message, work);
-        place = first_place(found, place, i);
-        found = found | measured.clear;
-        at += coins;
-        i += 1;
+        place = select(found, place, i as u32);
+        found |= measured.clear;
     }
-    Found {
-        some: found,
-        place: place,
-    }
+    found.then_some(place)
 }
 
 // Chooses where the lengths fit.
@@ -76,27 +75,33 @@ fn choose_fitting(
     message: &[u8],
     list: &[u8],
     b: &mut [u8],
-    place: &mut u32,
     work: &mut [u8],
-) -> u32
+) -> Result<u32, Refusal>
     requires { ChooseRoom p sk.now message.now list.now b.old work.old }
-    ensures { PlaceExit (choose_fitting p sk.now message.now list.now) result place.new }
+    ensures { PlaceExit (choose_fitting p sk.now message.now list.now) (status_of result) (value_of (λ place. place) result) }
 {
     noise::public_value(p, sk, b, work);
-    let agrees = noise::agree(p, sk, b);
-    let other_key = checks::refuse_if(!agrees, 8, 0);
-    if other_key != 0 {
-        *place = 0;
-        return other_key;
-    }
-    let found = search(p, sk, b, message, list, work);
-    let none = checks::refuse_if(!found.some, 9, 0);
-    if none != 0 {
-        *place = 0;
-        return none;
-    }
-    *place = found.place;
-    0
+    checks::require(noise::agree(p, sk, b), Refusal::WrongPublicKey)?;
+    search(p, sk, b, message, list, work).ok_or(Refusal::NoneClear)
+}
+
+// The call without the wiping of its work area, which its contract takes as done.
+fn choose_unwiped(
+    set: u32,
+    p: Params,
+    sk: &[u8],
+    message: &[u8],
+    list: &[u8],
+    work: &mut [u8],
+) -> Result<u32, Refusal>
+    requires { Parameters set p }
+    ensures { ChooseExit set sk.now message.now list.now work.old
+        (status_of result) (value_of (λ place. place) result) (work_after set (noise_work (of_set set)) work.new) }
+{
+    check(set, p, sk.len(), message.len(), list.len(), work.len())?;
+    let mut b = [0; 3072];
+    let end = lengths::length_of(p, p.l, p.k);
+    choose_fitting(p, sk, message, list, &mut b[..end], work)
 }
 
 // Gives the place of clear coins in a list of 1 to 8.
@@ -105,23 +110,13 @@ pub fn choose(
     sk: &[u8],
     message: &[u8],
     list: &[u8],
-    place: &mut u32,
     work: &mut [u8],
-) -> u32
+) -> Result<u32, Refusal>
     ensures { ChooseExit set sk.now message.now list.now work.old
-        result place.new work.new }
+        (status_of result) (value_of (λ place. place) result) work.new }
 {
     let p = kindi::parameters(set);
-    let need = sizes::noise_work(p);
-    let status = status(set, p, sk.len(), message.len(), list.len(), work.len());
-    if status != 0 {
-        *place = 0;
-        work::finish(set, need, work);
-        return status;
-    }
-    let mut b = measure::zeros();
-    let end = lengths::length_of(p, p.l, p.k);
-    let chosen = choose_fitting(p, sk, message, list, &mut b[..end], place, work);
-    work::finish(set, need, work);
-    chosen
+    let answer = choose_unwiped(set, p, sk, message, list, work);
+    work::finish(set, sizes::noise_work(p), work);
+    answer
 }

@@ -1,35 +1,36 @@
 // The call of the noise (01, "Noise").
-ghost use Rattle.std.specs.Prelude.{◌≡◌, cond};
-ghost use Rattle.kindi.specs.Params.{WellFormed};
+ghost use Rattle.std.specs.Prelude.{◌≡◌};
+ghost use Rattle.calls.specs.Refusals.{status_of, value_of};
+ghost use Rattle.kindi.specs.Params.{WellFormed, Parameters, of_set, noise_work};
+ghost use Rattle.kindi.specs.Calls.{work_after};
 ghost use Rattle.noise_calls.specs.Status.{noise_status};
-ghost use Rattle.noise_calls.specs.Fitting.{noise_fitting, NoiseRoom, SizeExit};
+ghost use Rattle.noise_calls.specs.Fitting.{noise_fitting, NoiseRoom, SizeExit, clear_flag, largest_value};
 ghost use Rattle.noise_calls.specs.Exits.{NoiseExit};
 
+use calls::refusal::Refusal;
 use calls::{checks, sizes, work};
 use kindi::Params;
+use noise::Measured;
 use vectors::lengths;
 
-// The status, from the set and the lengths alone.
-fn status(set: u32, p: Params, sk: usize, coins: usize, message: usize, work: usize) -> u32
+// The checks, of the set and the lengths alone.
+#[tactic(auto, using(calls::proofs::Refused::refusals), unfolding(crate::specs::Status::noise_status))]
+fn check(
+    set: u32,
+    p: Params,
+    sk: usize,
+    coins: usize,
+    message: usize,
+    work: usize,
+) -> Result<(), Refusal>
     requires { WellFormed p }
-    ensures { result ≡ noise_status set p sk coins message work }
+    ensures { status_of result ≡ noise_status set p sk coins message work }
 {
-    let r = checks::refuse_if(work < sizes::noise_work(p), 4, 0);
-    let r = checks::refuse_if(message >= lengths::padded(p), 3, r);
-    let r = checks::refuse_if(coins != p.coins, 2, r);
-    let r = checks::refuse_if(sk != sizes::secret_key(p), 2, r);
-    checks::refuse_if(!checks::is_set(set), 1, r)
-}
-
-// Room for b.
-pub fn zeros() -> [u8; 3072] {
-    [0; 3072]
-}
-
-fn flag(clear: bool) -> u32
-    ensures { result ≡ cond clear 1 0 }
-{
-    if clear { 1 } else { 0 }
+    checks::require(checks::is_set(set), Refusal::NoSuchSet)?;
+    checks::require(sk == sizes::secret_key(p), Refusal::WrongInputLen)?;
+    checks::require(coins == p.coins, Refusal::WrongInputLen)?;
+    checks::require(message < lengths::padded(p), Refusal::MessageTooLong)?;
+    checks::require(work >= sizes::noise_work(p), Refusal::WrongOutputLen)
 }
 
 // The noise where the lengths fit.
@@ -39,26 +40,34 @@ fn measure_fitting(
     coins: &[u8],
     message: &[u8],
     b: &mut [u8],
-    clear: &mut u32,
-    largest: &mut u32,
     work: &mut [u8],
-) -> u32
+) -> Result<Measured, Refusal>
     requires { NoiseRoom p sk.now coins.now message.now b.old work.old }
     ensures { SizeExit (noise_fitting p sk.now coins.now message.now)
-        result clear.new largest.new }
+        (status_of result) (value_of clear_flag result) (value_of largest_value result) }
 {
-    *clear = 0;
-    *largest = 0;
     noise::public_value(p, sk, b, work);
-    let agrees = noise::agree(p, sk, b);
-    let other_key = checks::refuse_if(!agrees, 8, 0);
-    if other_key != 0 {
-        return other_key;
-    }
-    let measured = noise::measure(p, sk, b, coins, message, work);
-    *clear = flag(measured.clear);
-    *largest = measured.largest;
-    0
+    checks::require(noise::agree(p, sk, b), Refusal::WrongPublicKey)?;
+    Ok(noise::measure(p, sk, b, coins, message, work))
+}
+
+// The call without the wiping of its work area, which its contract takes as done.
+fn noise_unwiped(
+    set: u32,
+    p: Params,
+    sk: &[u8],
+    coins: &[u8],
+    message: &[u8],
+    work: &mut [u8],
+) -> Result<Measured, Refusal>
+    requires { Parameters set p }
+    ensures { NoiseExit set sk.now coins.now message.now work.old
+        (status_of result) (value_of clear_flag result) (value_of largest_value result) (work_after set (noise_work (of_set set)) work.new) }
+{
+    check(set, p, sk.len(), coins.len(), message.len(), work.len())?;
+    let mut b = [0; 3072];
+    let end = lengths::length_of(p, p.l, p.k);
+    measure_fitting(p, sk, coins, message, &mut b[..end], work)
 }
 
 // Tells whether coins and a message are clear under a secret key, and the largest absolute value of their noise.
@@ -67,25 +76,13 @@ pub fn noise(
     sk: &[u8],
     coins: &[u8],
     message: &[u8],
-    clear: &mut u32,
-    largest: &mut u32,
     work: &mut [u8],
-) -> u32
+) -> Result<Measured, Refusal>
     ensures { NoiseExit set sk.now coins.now message.now work.old
-        result clear.new largest.new work.new }
+        (status_of result) (value_of clear_flag result) (value_of largest_value result) work.new }
 {
     let p = kindi::parameters(set);
-    let need = sizes::noise_work(p);
-    let status = status(set, p, sk.len(), coins.len(), message.len(), work.len());
-    if status != 0 {
-        *clear = 0;
-        *largest = 0;
-        work::finish(set, need, work);
-        return status;
-    }
-    let mut b = zeros();
-    let end = lengths::length_of(p, p.l, p.k);
-    let measured = measure_fitting(p, sk, coins, message, &mut b[..end], clear, largest, work);
-    work::finish(set, need, work);
-    measured
+    let answer = noise_unwiped(set, p, sk, coins, message, work);
+    work::finish(set, sizes::noise_work(p), work);
+    answer
 }

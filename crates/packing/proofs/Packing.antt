@@ -2,16 +2,26 @@
 use mathlib.Core.Path.{◌≡◌, refl, sym, ap, ap₂, ◌∙◌}
 use mathlib.Core.List.{List, [], ◌∷◌, ◌++◌}
 use Prim.Native.Nat.{ℕ, suc, ◌+◌, ◌-◌, ◌*◌, ◌/◌, ◌%◌, ◌^◌, ◌≤◌, ◌<◌, min}
-use native.Mathlib.Nat.{lt_of_lt_of_le, mul-le-mul_left, mul-le-mul_right, mul-suc, mul-zero, mul_assoc, mod-lt, add-mul-div_left, add-mul-mod_self_left}
+use native.Mathlib.Nat.{
+  lt_of_lt_of_le,
+  mul-le-mul_left,
+  mul-le-mul_right,
+  mul-add,
+  mul-suc,
+  mul-zero,
+  mul_assoc,
+  mod-lt,
+  add-mul-div_left,
+  add-mul-mod_self_left,
+}
 use native.Mathlib.Numerals.{add-one}
 use native.Mathlib.Omega.{arith}
-use lib.ListN.{length, get_or, take, drop, length-append, take-append-drop, length-take, get_or-map}
+use lib.ListN.{length, get_or, take, drop, length-append, take-append-drop, length-take, length-drop, get_or-map}
 use lib.Pow.{pow-add, pow_pos, pow_mono, shl_exact, shr-shr, shr_lt}
-use lib.Seq.{take-suc, take-take, take-add, take-append-le, take-append-add, take_all}
+use lib.Seq.{take-suc, take-take, take-add, take-append-le, take-append-add, take_all, drop-drop}
 use Rattle.keccak.specs.Lists.{value, digits}
 use Rattle.keccak.proofs.Parts.{length_digits}
 use Rattle.bits.proofs.Digits.{digits-add, digits_low, take-digits, value-append, value_below, low_bits_below, low_bits-append, length-low_bits, pack-append}
-use Rattle.bits.proofs.Words.{rest-parts}
 use Rattle.bits.specs.Bits.{bytes_for, pack, low_bits}
 
 -- The place of coefficient i of n lies inside a string that holds w·n bits.
@@ -229,6 +239,71 @@ pack_split w i a n cs e h =
     ap (λ (l : List ℕ). pack w (low_bits w l)) (take-add i n cs) ∙ ap (pack w) (low_bits-append w (take i cs) (take n (drop i cs)))
     ∙ pack-append w a xs (low_bits w (take n (drop i cs))) (low_bits_below w (take i cs)) fill
 
--- After t turns of eight coefficients the rest of the string is as long as the rest of them needs.
-pub rest_bytes : (w n t : ℕ) → 8 * t ≤ n → bytes_for (w * n) - w * t ≡ bytes_for (w * (n - 8 * t))
-rest_bytes w n t h = omega (arith, rest-parts w n t h)
+-- What the loop over eights carries: the first coefficients fill the first k bytes, and the others are to come.
+pub record Eights (w : ℕ) (cs rest : List ℕ) (k : ℕ) (dst : List ℕ) : Type 0 where
+  pub count : ℕ
+  pub fits : count ≤ length cs
+  pub others : rest ≡ drop count cs
+  pub place : w * count ≡ 8 * k
+  pub long : length dst ≡ bytes_for (w * length cs)
+  pub written : take k dst ≡ pack w (low_bits w (take count cs))
+
+pub eights_none : (w : ℕ) (cs dst : List ℕ) → length dst ≡ bytes_for (w * length cs) → Eights w cs cs 0 dst
+unfolding pack low_bits value digits
+eights_none w cs dst l = record {
+  count = 0;
+  fits = omega arith;
+  others = refl;
+  place = mul-zero w;
+  long = l;
+  written = simp mul-zero;
+}
+
+module _ {w : ℕ} {cs rest : List ℕ} {k : ℕ} {dst : List ℕ} (h : Eights w cs rest k dst) where
+  -- The string has the bytes of the rest.
+  eights_parts : 8 * k + w * length rest ≡ w * length cs
+  eights_parts =
+      let m = h.count in
+      let long : length rest ≡ length cs - m = ap length h.others ∙ length-drop m cs in
+      let parts : m + (length cs - m) ≡ length cs = omega (arith, h.fits) in
+      omega (arith, h.place, ap (λ (x : ℕ). w * x) long, mul-add w m (length cs - m), ap (λ (x : ℕ). w * x) parts)
+
+  pub eights_room : k ≤ length dst
+  eights_room = omega (arith, eights_parts, h.long)
+
+  pub eights_rest : length dst - k ≡ bytes_for (w * length rest)
+  eights_rest = omega (arith, eights_parts, h.long)
+
+  -- n coefficients more, and the bytes from k on.
+  eights_join : (n : ℕ) → pack w (low_bits w (take (h.count + n) cs)) ≡ take k dst ++ pack w (low_bits w (take n rest))
+  eights_join n =
+      pack_split w h.count k n cs h.place h.fits
+      ∙ ap₂ (λ (l r : List ℕ). l ++ pack w (low_bits w (take n r))) (sym h.written) (sym h.others)
+
+  -- Eight coefficients more.
+  pub eights_more : (ys : List ℕ) → 8 ≤ length rest → length ys ≡ length dst - k → take w ys ≡ pack w (low_bits w (take 8 rest))
+      → Eights w cs (drop 8 rest) (k + w) (take k dst ++ ys)
+  eights_more ys eight l e =
+      let m = h.count in
+      let room = eights_room in
+      let long : length rest ≡ length cs - m = ap length h.others ∙ length-drop m cs in
+      let front : length (take k dst) ≡ k = simp length-take (omega arith) in
+      record {
+        count = m + 8;
+        fits = omega (arith, h.fits);
+        others = ap (drop 8) h.others ∙ drop-drop 8 m cs;
+        place = omega (arith, h.place, mul-add w m 8);
+        long = simp (length-append, length-take) (omega (arith, h.long));
+        written = ap (λ (x : ℕ). take (x + w) (take k dst ++ ys)) (sym front) ∙ take-append-add (take k dst) ys w
+            ∙ ap (λ (l : List ℕ). take k dst ++ l) e ∙ sym (eights_join 8);
+      }
+
+  -- All of them.
+  pub eights_all : {ys : List ℕ} → ys ≡ pack w (low_bits w rest) → take k dst ++ ys ≡ pack w (low_bits w cs)
+  eights_all {ys} e =
+      let m = h.count in
+      let n = length rest in
+      let long : n ≡ length cs - m = ap length h.others ∙ length-drop m cs in
+      let whole : take (m + n) cs ≡ cs = take_all (m + n) cs (omega (arith, h.fits)) in
+      ap (λ (l : List ℕ). take k dst ++ l) (e ∙ ap (λ (l : List ℕ). pack w (low_bits w l)) (sym (take_all n rest (omega arith))))
+      ∙ sym (eights_join n) ∙ ap (λ (l : List ℕ). pack w (low_bits w l)) whole

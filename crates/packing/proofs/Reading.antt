@@ -19,7 +19,7 @@ use Rattle.bits.proofs.Words.{digits_from}
 use Rattle.packing.specs.declared.reader.Cursor.{Cursor}
 use Rattle.packing.specs.declared.reader.Coefficient.{Coefficient}
 use Rattle.packing.specs.Reading.{cursor_at, bit_of, coefficient_at, unpack_from, in_turn, cursor_after, Held, Read, InTurn}
-use Rattle.packing.specs.Turns.{Begun, OneWord, TwoWords, HoldBefore}
+use Rattle.packing.specs.Turns.{OneWord, TwoWords, HoldBefore}
 
 -- ---- where a cursor stands
 
@@ -165,6 +165,12 @@ word_in_turn {w} {bs} {c} bytes one e place =
     })
 
 -- ---- a loop that reads
+
+-- After n coefficients, read from c into a list that may be longer: the cursor after them, and the rest of the list as it was.
+pub record Begun (w n : ℕ) (bs : List ℕ) (c next : Cursor) (entry exit : List ℕ) : Type 0 where
+  pub fits : n ≤ length entry
+  pub coefficients : exit ≡ unpack_from (bit_of c) w n bs ++ drop n entry
+  pub place : next ≡ cursor_at (bit_of c + w * n)
 
 -- What a loop carries: what was asked at its start, and what was read since.
 pub record Reading (w : ℕ) (bs : List ℕ) (c₀ : Cursor) (dst₀ : List ℕ) (i : ℕ) (c : Cursor) (dst : List ℕ) : Type 0 where

@@ -1,13 +1,7 @@
 -- How the reader takes eight coefficients a turn from words of 64 bits. Rests on `Reading`.
-use Rattle.std.specs.Prelude.{List, ◌++◌, ◌≡◌, ℕ, ◌+◌, ◌*◌, ◌≤◌, ◌<◌, length, drop}
+use Rattle.std.specs.Prelude.{ℕ, ◌+◌, ◌*◌, ◌≤◌, ◌<◌}
 use Rattle.packing.specs.declared.reader.Cursor.{Cursor}
-use Rattle.packing.specs.Reading.{cursor_at, bit_of, unpack_from}
-
--- After n coefficients, read from c into a list that may be longer: the cursor after them, and the rest of the list as it was.
-pub record Begun (w n : ℕ) (bs : List ℕ) (c next : Cursor) (entry exit : List ℕ) : Type 0 where
-  pub fits : n ≤ length entry
-  pub coefficients : exit ≡ unpack_from (bit_of c) w n bs ++ drop n entry
-  pub place : next ≡ cursor_at (bit_of c + w * n)
+use Rattle.packing.specs.Reading.{cursor_at, bit_of}
 
 -- Four coefficients at a cursor lie in one word of a string of m bytes.
 pub record OneWord (w : ℕ) (c : Cursor) (m : ℕ) : Type 0 where

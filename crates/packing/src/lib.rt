@@ -3,67 +3,12 @@
 
 pub mod reader;
 
-ghost use Rattle.std.specs.Prelude.{◌++◌, ◌≡◌, ◌+◌, ◌*◌, ◌/◌, ◌%◌, ◌^◌, ◌≤◌, ◌<◌, min, length, take, drop};
+ghost use Rattle.std.specs.Prelude.{◌≡◌, ◌+◌, ◌*◌, ◌/◌, ◌%◌, ◌^◌, ◌≤◌, ◌<◌, min, length, take};
 ghost use Rattle.keccak.specs.Lists.{value, digits};
 ghost use Rattle.bits.specs.Bits.{bytes_for, pack, unpack, low_bits};
 
 use bits::low_bits;
-use reader::{Cursor, low_word, put_four, word};
-
-// The reader of 0.3.0, from `field` to `unpack_eights`, stands until the request for the cursor has landed; nothing calls it.
-
-// The w bits from bit `shift` of byte k on.
-fn field(w: u32, src: &[u8], k: usize, shift: u32) -> u16
-    requires { (w ≤ 16) × (shift < 8) × (k ≤ length src.now) }
-    ensures { result ≡ value 8 src.now / 2 ^ (8 * k + shift) % 2 ^ w }
-{
-    low_bits(low_word(&src[k..]) >> shift, w)
-}
-
-// One coefficient a turn.
-fn unpack_each(w: u32, src: &[u8], dst: &mut [u16])
-    requires { (w ≤ 16) × (w * length dst.old ≤ 8 * length src.now) }
-    ensures { dst.new ≡ unpack w (length dst.old) src.now }
-{
-    let mut k = 0;
-    let mut shift = 0;
-    let mut i = 0;
-    while i < dst.len() {
-        dst[i] = field(w, src, k, shift);
-        k += ((shift + w) / 8) as usize;
-        shift = (shift + w) % 8;
-        i += 1;
-    }
-}
-
-// Eight coefficients: four in the word from byte 0 on, and four in the word from byte w / 2 on.
-fn unpack_eight(w: u32, src: &[u8], dst: &mut [u16])
-    requires { (w ≤ 16) × (w / 2 + 8 ≤ length src.now) × (length dst.old ≡ 8) }
-    ensures { dst.new ≡ unpack w 8 src.now }
-{
-    let half = (w / 2) as usize;
-    put_four(&mut dst[..4], word(src), w);
-    put_four(&mut dst[4..], word(&src[half..]) >> (4 * (w % 2)), w);
-}
-
-// Eight coefficients, which fill w bytes, a turn, as long as whole words can be read; returns the number of turns.
-fn unpack_eights(w: u32, src: &[u8], dst: &mut [u16]) -> usize
-    requires { w ≤ 16 }
-    ensures { (8 * result ≤ length dst.old) × (w * result ≤ length src.now)
-        × (dst.new ≡ unpack w (8 * result) src.now ++ drop (8 * result) dst.old) }
-{
-    let mut turns = 0;
-    while 8 <= dst.len() - 8 * turns {
-        let k = w as usize * turns;
-        let i = 8 * turns;
-        if src.len() - k < (w / 2) as usize + 8 {
-            return turns;
-        }
-        unpack_eight(w, &src[k..], &mut dst[i..i + 8]);
-        turns += 1;
-    }
-    turns
-}
+use reader::Cursor;
 
 pub fn unpack(w: u32, src: &[u8], dst: &mut [u16])
     requires { (w ≤ 16) × (w * length dst.old ≤ 8 * length src.now) }
@@ -73,22 +18,18 @@ pub fn unpack(w: u32, src: &[u8], dst: &mut [u16])
 }
 
 // Writes the low bytes of v, as far as there is room.
+#[tactic(auto, using(bits::proofs::Filling::filling_begun, bits::proofs::Filling::filling_all))]
 fn put(dst: &mut [u8], v: u32)
     ensures { take 4 dst.new ≡ digits 8 (min 4 (length dst.old)) v }
 {
+    let bytes = v.to_le_bytes();
     if 4 <= dst.len() {
-        dst[0] = (v % 256) as u8;
-        dst[1] = (v / 256 % 256) as u8;
-        dst[2] = (v / 65536 % 256) as u8;
-        dst[3] = (v / 16777216 % 256) as u8;
+        dst[..4].copy_from_slice(&bytes);
         return;
     }
-    let mut left = v;
-    let mut i = 0;
-    while i < dst.len() {
-        dst[i] = (left % 256) as u8;
-        left = left / 256;
-        i += 1;
+    // No `copy_from_slice`: at a length that varies it is a call, which takes longer than so few bytes.
+    for (i, byte) in dst.iter_mut().enumerate() {
+        *byte = bytes[i];
     }
 }
 
@@ -97,26 +38,26 @@ fn join_bits(pending: u32, count: u32, c: u16, w: u32) -> u32
     requires { (w ≤ 16) × (count < 8) × (pending < 2 ^ count) }
     ensures { (result ≡ pending + 2 ^ count * (c % 2 ^ w)) × (result < 2 ^ (count + w)) }
 {
-    pending + ((low_bits(c as u32, w) as u32) << count)
+    pending + (u32::from(low_bits(u32::from(c), w)) << count)
 }
 
 // One coefficient a turn.
+#[tactic(auto, using(crate::proofs::Packing::packed_room))]
 fn pack_each(w: u32, src: &[u16], dst: &mut [u8])
     requires { (w ≤ 16) × (length dst.old ≡ bytes_for (w * length src.now)) }
     ensures { dst.new ≡ pack w (low_bits w src.now) }
 {
     let mut pending = 0;
     let mut count = 0;
+    // By a place in dst: a turn fills 0 to 2 bytes.
     let mut k = 0;
-    let mut i = 0;
-    while i < src.len() {
-        let bits = join_bits(pending, count, src[i], w);
+    for c in src {
+        let bits = join_bits(pending, count, *c, w);
         put(&mut dst[k..], bits);
         let whole = (count + w) / 8;
         pending = bits >> (8 * whole);
         count = (count + w) % 8;
         k += whole as usize;
-        i += 1;
     }
 }
 
@@ -125,7 +66,7 @@ fn below(c: u16, w: u32, high: u64) -> u64
     requires { (w ≤ 16) × (high < 2 ^ 48) }
     ensures { (result ≡ c % 2 ^ w + 2 ^ w * high) × (result < 65536 * (high + 1)) }
 {
-    low_bits(c as u32, w) as u64 + (65536 >> (16 - w)) * high
+    u64::from(low_bits(u32::from(c), w)) + (65536 >> (16 - w)) * high
 }
 
 // The number of four coefficients.
@@ -149,51 +90,35 @@ fn upper(low: u64, high: u64, w: u32) -> u64
     (high << (4 * (w % 2))) + (low >> half >> half)
 }
 
-// Writes the eight bytes of v, and leaves what follows.
-fn put_word(dst: &mut [u8], v: u64)
-    requires { 8 ≤ length dst.old }
-    ensures { dst.new ≡ digits 8 8 v ++ drop 8 dst.old }
-{
-    keccak::strings::store(&mut dst[..8], v);
-}
-
 // Eight coefficients in w bytes; what is written past them is not kept.
-fn pack_eight(w: u32, src: &[u16], dst: &mut [u8])
-    requires { (w ≤ 16) × (length src.now ≡ 8) × (w / 2 + 8 ≤ length dst.old) }
+fn pack_eight(w: u32, src: &[u16; 8], dst: &mut [u8])
+    requires { (w ≤ 16) × (w / 2 + 8 ≤ length dst.old) }
     ensures { take w dst.new ≡ pack w (low_bits w src.now) }
 {
     let half = (w / 2) as usize;
-    let low = four(&src[..4], w);
-    let high = four(&src[4..], w);
-    put_word(dst, low);
-    put_word(&mut dst[half..], upper(low, high, w));
+    let (first, second) = src.split_at(4);
+    let low = four(first, w);
+    let high = four(second, w);
+    dst[..8].copy_from_slice(&low.to_le_bytes());
+    dst[half..half + 8].copy_from_slice(&upper(low, high, w).to_le_bytes());
 }
 
-// Eight coefficients a turn, as long as there is room for whole words; returns the number of turns.
-fn pack_eights(w: u32, src: &[u16], dst: &mut [u8]) -> usize
-    requires { w ≤ 16 }
-    ensures { (8 * result ≤ length src.now) × (w * result ≤ length dst.old)
-        × (take (w * result) dst.new ≡ pack w (low_bits w (take (8 * result) src.now))) }
-{
-    let mut turns = 0;
-    while 8 <= src.len() - 8 * turns {
-        let k = w as usize * turns;
-        let i = 8 * turns;
-        if dst.len() - k < (w / 2) as usize + 8 {
-            return turns;
-        }
-        pack_eight(w, &src[i..i + 8], &mut dst[k..]);
-        turns += 1;
-    }
-    turns
-}
-
+// Eight coefficients a turn, as long as there is room for whole words, and then one by one.
+#[tactic(auto, using(crate::proofs::Packing::eights_room))]
 pub fn pack(w: u32, src: &[u16], dst: &mut [u8])
     requires { (w ≤ 16) × (length dst.old ≡ bytes_for (w * length src.now)) }
     ensures { dst.new ≡ pack w (low_bits w src.now) }
 {
-    let turns = pack_eights(w, src, dst);
-    let k = w as usize * turns;
-    let i = 8 * turns;
-    pack_each(w, &src[i..], &mut dst[k..]);
+    let mut rest = src;
+    // By a place in dst: a turn writes past its w bytes, and where no room is left for that `pack_each` goes on.
+    let mut k = 0;
+    while let Some((eight, after)) = rest.split_first_chunk() {
+        if dst.len() - k < (w / 2) as usize + 8 {
+            break;
+        }
+        pack_eight(w, eight, &mut dst[k..]);
+        rest = after;
+        k += w as usize;
+    }
+    pack_each(w, rest, &mut dst[k..]);
 }

@@ -4,7 +4,7 @@ ghost use Rattle.std.specs.Prelude.{◌≡◌, ◌+◌, ◌*◌, ◌/◌, ◌%�
 ghost use Rattle.keccak.specs.Lists.{value, digits};
 ghost use Rattle.packing.specs.Apart.{two_apart};
 ghost use Rattle.packing.specs.Reading.{cursor_at, bit_of, coefficient_at, Held, Read, InTurn};
-ghost use Rattle.packing.specs.Turns.{Begun, OneWord, TwoWords, HoldBefore};
+ghost use Rattle.packing.specs.Turns.{OneWord, TwoWords, HoldBefore};
 
 use bits::low_bits;
 
@@ -22,46 +22,34 @@ pub struct Coefficient {
     pub next: Cursor,
 }
 
-// How many coefficients were read, and the cursor after them.
-#[derive(Clone, Copy)]
-pub struct Part {
-    pub count: usize,
-    pub next: Cursor,
-}
-
 fn byte_or_zero(s: &[u8], i: usize) -> u8
     ensures { result ≡ get_or s.now i 0 }
 {
-    if i < s.len() { s[i] } else { 0 }
-}
-
-fn join(a: u8, b: u8, c: u8, d: u8) -> u32
-    ensures { result ≡ a + 2 ^ 8 * (b + 2 ^ 8 * (c + 2 ^ 8 * d)) }
-{
-    a as u32 + 256 * (b as u32 + 256 * (c as u32 + 256 * (d as u32)))
+    s.get(i).copied().unwrap_or(0)
 }
 
 // The first 32 bits; those past the end are 0.
-pub(crate) fn low_word(s: &[u8]) -> u32
+fn low_word(s: &[u8]) -> u32
     ensures { result ≡ value 8 s.now % 2 ^ 32 }
 {
+    // Where all are there they are read at once, which is faster.
     if 4 <= s.len() {
-        return join(s[0], s[1], s[2], s[3]);
+        return u32::from_le_bytes([s[0], s[1], s[2], s[3]]);
     }
-    join(
+    u32::from_le_bytes([
         byte_or_zero(s, 0),
         byte_or_zero(s, 1),
         byte_or_zero(s, 2),
         byte_or_zero(s, 3),
-    )
+    ])
 }
 
 // The first 64 bits.
-pub(crate) fn word(s: &[u8]) -> u64
+fn word(s: &[u8]) -> u64
     requires { 8 ≤ length s.now }
     ensures { result ≡ value 8 s.now % 2 ^ 64 }
 {
-    join(s[0], s[1], s[2], s[3]) as u64 + 4294967296 * (join(s[4], s[5], s[6], s[7]) as u64)
+    u64::from_le_bytes([s[0], s[1], s[2], s[3], s[4], s[5], s[6], s[7]])
 }
 
 // The first two digits of x in base 2^(2w), at places of 32 bits. A product moves the second, since shifts by a variable cost
@@ -99,7 +87,7 @@ fn low_half(x: u64) -> u16
 }
 
 // Writes the first four digits of x in base 2^w.
-pub(crate) fn put_four(dst: &mut [u16], x: u64, w: u32)
+fn put_four(dst: &mut [u16], x: u64, w: u32)
     requires { (w ≤ 16) × (length dst.old ≡ 4) }
     ensures { dst.new ≡ digits w 4 x }
 {
@@ -124,8 +112,10 @@ impl Cursor {
         ensures { result ≡ cursor_at (bit_of self + bits) }
     {
         let sum = self.bit + bits;
-        let byte = self.byte + (sum >> 3) as usize;
-        Self { byte, bit: sum & 7 }
+        Self {
+            byte: self.byte + (sum >> 3) as usize,
+            bit: sum & 7,
+        }
     }
 
     // Reads one coefficient.
@@ -133,10 +123,9 @@ impl Cursor {
         requires { Held w 1 self (length src.now) }
         ensures { result ≡ coefficient_at w src.now self }
     {
-        let at = self.byte;
-        let bits = low_word(&src[at..]) >> self.bit;
+        let word = low_word(&src[self.byte..]);
         Coefficient {
-            value: low_bits(bits, w),
+            value: low_bits(word >> self.bit, w),
             next: self.after(w),
         }
     }
@@ -146,8 +135,7 @@ impl Cursor {
         requires { (OneWord w self (length src.now)) × (length dst.old ≡ 4) }
         ensures { InTurn w 4 src.now self result dst.new }
     {
-        let at = self.byte;
-        put_four(dst, word(&src[at..]) >> self.bit, w);
+        put_four(dst, word(&src[self.byte..]) >> self.bit, w);
         self.after(4 * w)
     }
 
@@ -158,10 +146,9 @@ impl Cursor {
     {
         let second = self.four(w, src, &mut dst[..4]);
         second.four(w, src, &mut dst[4..]);
-        let byte = self.byte + w as usize;
         Self {
-            byte,
-            bit: self.bit,
+            byte: self.byte + w as usize,
+            ..self
         }
     }
 
@@ -170,41 +157,12 @@ impl Cursor {
         requires { (w ≤ 16) × (self.bit < 8) }
         ensures { HoldBefore w self.bit len result }
     {
-        let first = Self {
-            byte: 0,
-            bit: self.bit,
-        };
+        let first = Self { byte: 0, ..self };
         let second = first.after(4 * w);
-        if 64 < first.bit + 4 * w {
+        if 64 < first.bit + 4 * w || 64 < second.bit + 4 * w {
             return 0;
         }
-        if 64 < second.bit + 4 * w {
-            return 0;
-        }
-        let past = second.byte + 7;
-        if len < past {
-            return 0;
-        }
-        len - past
-    }
-
-    // Reads eight coefficients a turn, as long as two words hold them.
-    fn eights(self, w: u32, src: &[u8], dst: &mut [u16]) -> Part
-        requires { Held w (length dst.old) self (length src.now) }
-        ensures { Begun w result.count src.now self result.next dst.old dst.new }
-    {
-        let end = self.end(w, src.len());
-        let mut c = self;
-        let mut i = 0;
-        while 8 <= dst.len() - i {
-            if end <= c.byte {
-                return Part { count: i, next: c };
-            }
-            let next = c.eight(w, src, &mut dst[i..i + 8]);
-            c = next;
-            i += 8;
-        }
-        Part { count: i, next: c }
+        len.saturating_sub(second.byte + 7)
     }
 
     // Reads one coefficient a turn.
@@ -213,24 +171,28 @@ impl Cursor {
         ensures { Read w (length dst.old) src.now self result dst.new }
     {
         let mut c = self;
-        let mut i = 0;
-        while i < dst.len() {
+        for value in dst.iter_mut() {
             let one = c.one(w, src);
-            dst[i] = one.value;
+            *value = one.value;
             c = one.next;
-            i += 1;
         }
         c
     }
 
-    // Reads as many coefficients as dst has, from any bit of a string on.
+    // Reads as many coefficients as dst has, from any bit of a string on: eight a turn, as long as two words hold them, and then
+    // one by one.
     pub fn read(self, w: u32, src: &[u8], dst: &mut [u16]) -> Self
         requires { Held w (length dst.old) self (length src.now) }
         ensures { Read w (length dst.old) src.now self result dst.new }
     {
-        let part = self.eights(w, src, dst);
-        let i = part.count;
-        let c = part.next;
+        let end = self.end(w, src.len());
+        let mut c = self;
+        // No `for`: it would not hand its place on to `each`.
+        let mut i = 0;
+        while 8 <= dst.len() - i && c.byte < end {
+            c = c.eight(w, src, &mut dst[i..i + 8]);
+            i += 8;
+        }
         c.each(w, src, &mut dst[i..])
     }
 }

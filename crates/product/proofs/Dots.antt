@@ -6,14 +6,14 @@ use native.Mathlib.Nat.{add-sub_cancel_left, mul-le-mul_left, mul-le-mul, mul-su
 use native.Mathlib.Numerals.{add-one}
 use native.Mathlib.Omega.{arith}
 use lib.IntN.{pos, neg_ℤ, ◌*ℤ◌, +ℤ_assoc, +ℤ_idr}
-use lib.ListN.{length, get_or, take, drop, length-take, length-drop, length-append}
+use lib.ListN.{length, get_or, take, drop, length-append}
 use lib.Seq.{get_or-take, get_or-drop, take-append_seam}
 use Rattle.bits.specs.Bits.{Below}
 use Rattle.ring.specs.Poly.{Poly, sum, plus, shifted, mul, dot, parts, of_nats, residues}
 use Rattle.ring.specs.Integers.{Cong}
 use Rattle.ring.specs.Coefficients.{with_product}
 use Rattle.ring.specs.Terms.{doubled}
-use Rattle.product.specs.Dots.{Factors, Vectors, with_dot}
+use Rattle.product.specs.Dots.{Factors, with_dot}
 use Rattle.product.specs.Toeplitz.{toeplitz, with_toeplitz}
 use Rattle.ring.proofs.Modular.{cong_add, cong_mul, cong_of_eq, cong_refl, cong_trans}
 use Rattle.ring.proofs.Residues.{length-residues, residues_ext, residues_cong, residues_of_list, of_nats-residues}
@@ -54,7 +54,7 @@ part_at : (n i x : ℕ) (f : List ℕ) → x < n → get_or (take n (drop (i * n
 part_at n i x f h = get_or-take n (drop (i * n) f) x 0 h ∙ get_or-drop (i * n) f x 0
 
 -- One product more.
-pub dot_more : (i : ℕ) (acc ys f s : List ℕ) → length ys ≡ length acc → ys ≡ with_dot i acc f s
+dot_more : (i : ℕ) (acc ys f s : List ℕ) → length ys ≡ length acc → ys ≡ with_dot i acc f s
     → with_product ys (take (length acc) (drop (i * length acc) f)) (take (length acc) (drop (i * length acc) s)) ≡ with_dot (suc i) acc f s
 unfolding with_dot dot sum
 dot_more i acc ys f s long e =
@@ -77,26 +77,12 @@ row_fits {i} {m} n h = omega (arith, mul-le-mul_left n h, mul-suc n i, mul_comm 
 pub rows_few : {m n : ℕ} → m ≤ 8 → n ≤ 512 → m * n ≤ 4096
 rows_few h l = mul-le-mul h l
 
-part_long : (m i n : ℕ) (f : List ℕ) → length f ≡ m * n → i < m → length (take n (drop (i * n) f)) ≡ n
-part_long m i n f long h =
-    let fits : i * n + n ≤ m * n = row_fits n h in
-    simp (length-take, length-drop, long) (omega arith)
-
--- Part i of two vectors are factors.
-pub part_factors : (m i at : ℕ) (acc ys f s : List ℕ) → Vectors m acc f s → i < m → at ≡ i * length acc → length ys ≡ length acc
-    → Factors ys (take (at + length acc - at) (drop at f)) (take (at + length acc - at) (drop at s))
-part_factors m i at acc ys f s v h e long =
-    rw (add-sub_cancel_left at (length acc)) (rw e (record {
-      first = part_long m i (length acc) f v.first h ∙ sym long;
-      second = part_long m i (length acc) s v.second h ∙ sym long;
-      short = rw long v.short;
-    }))
-
 -- A turn of the loop adds one product.
-pub dot_turn : (i at : ℕ) (acc ys zs f s : List ℕ) → length ys ≡ length acc → at ≡ i * length acc → ys ≡ with_dot i acc f s
-    → zs ≡ with_product ys (take (at + length acc - at) (drop at f)) (take (at + length acc - at) (drop at s))
+pub dot_turn : (i : ℕ) (acc ys zs f s : List ℕ) → length ys ≡ length acc → ys ≡ with_dot i acc f s
+    → zs ≡ with_product ys (take (i * length acc + length acc - i * length acc) (drop (i * length acc) f))
+    (take (i * length acc + length acc - i * length acc) (drop (i * length acc) s))
     → zs ≡ with_dot (i + 1) acc f s
-dot_turn i at acc ys zs f s long e h product =
+dot_turn i acc ys zs f s long h product =
     let again : zs ≡ with_product ys (take (length acc) (drop (i * length acc) f)) (take (length acc) (drop (i * length acc) s))
-    = rw e at (rw (add-sub_cancel_left at (length acc)) at product) in
+    = rw (add-sub_cancel_left (i * length acc) (length acc)) at product in
     again ∙ dot_more i acc ys f s long h ∙ ap (λ (m : ℕ). with_dot m acc f s) (sym (add-one i))

@@ -1,12 +1,12 @@
 -- Laws of the lists that the product by halves reads and leaves, modulo 2^16. Assumes nothing.
 use mathlib.Core.Path.{◌≡◌, refl, sym, ap, ap₂, ◌∙◌}
 use mathlib.Core.List.{List, ◌++◌}
-use Prim.Native.Nat.{ℕ, zero, suc, ◌+◌, ◌-◌, ◌*◌, ◌<◌, zero-le, suc-le-suc}
+use Prim.Native.Nat.{ℕ, zero, suc, ◌+◌, ◌-◌, ◌<◌, zero-le, suc-le-suc}
 use native.Mathlib.Nat.{zero-add}
 use native.Mathlib.Omega.{arith}
 use lib.IntN.{pos, ◌+ℤ◌, ◌-ℤ◌, +ℤ_idl}
-use lib.ListN.{length, get_or, take, drop, replicate, length-drop, length-append, length-replicate}
-use lib.Seq.{get_or-take, get_or-drop, length-take-le, length_front, take-append_seam, drop-append_seam}
+use lib.ListN.{length, get_or, take, drop, replicate, length-drop, length-replicate}
+use lib.Seq.{get_or-take, get_or-drop, length-take-le, take-append_seam, drop-append_seam}
 use Rattle.keccak.specs.Lists.{patched}
 use Rattle.keccak.proofs.Entries.{tabulate-add}
 use Rattle.keccak.proofs.Parts.{patched-rest, take_rest}
@@ -25,7 +25,7 @@ some = suc-le-suc zero-le
 
 -- ---- parts of lists
 
-pub zeros_long : {n : ℕ} {xs : List ℕ} → xs ≡ replicate n 0 → length xs ≡ n
+zeros_long : {n : ℕ} {xs : List ℕ} → xs ≡ replicate n 0 → length xs ≡ n
 zeros_long {n} e = ap length e ∙ length-replicate n 0
 
 -- The entries from place h on, and a list that has others there, as a part that is lent and comes back leaves them.
@@ -34,15 +34,6 @@ rest h xs = take (length xs - h) (drop h xs)
 
 abbrev pub put_rest : {A : Type 0} → ℕ → List A → List A → List A
 put_rest h ys xs = patched h (length xs - h) ys xs
-
-pub rest_long : {A : Type 0} (h : ℕ) (xs : List A) → length xs ≡ h + h → length (rest h xs) ≡ h
-rest_long h xs l = ap length (take_rest h xs) ∙ simp length-drop (omega arith)
-
-pub first_long : {A : Type 0} (h : ℕ) (xs : List A) → length xs ≡ h + h → length (take h xs) ≡ h
-first_long h xs l = length-take-le h xs (omega arith)
-
-pub front_long : {A : Type 0} (h : ℕ) (xs ys : List A) → length xs ≡ h + h → length ys ≡ length (take h xs) → length (ys ++ drop h xs) ≡ h + h
-front_long h xs ys l e = length_front xs ys h e ∙ l
 
 rest_at : (h : ℕ) (xs : List ℕ) (k : ℕ) → of_nats (rest h xs) k ≡ from h (of_nats xs) k
 rest_at h xs k = ap (λ (l : List ℕ). of_nats l k) (take_rest h xs) ∙ ap pos (get_or-drop h xs k 0)
@@ -54,36 +45,12 @@ take_at h xs {k} hk = ap pos (get_or-take h xs k 0 hk)
 first_of : {A : Type 0} (h : ℕ) (ys zs : List A) → length ys ≡ h → take h (ys ++ zs) ≡ ys
 first_of h ys zs l = ap (λ (m : ℕ). take m (ys ++ zs)) (sym l) ∙ take-append_seam ys zs
 
-pub second_of : {A : Type 0} (h : ℕ) (ys zs : List A) → length ys ≡ h → drop h (ys ++ zs) ≡ zs
+second_of : {A : Type 0} (h : ℕ) (ys zs : List A) → length ys ≡ h → drop h (ys ++ zs) ≡ zs
 second_of h ys zs l = ap (λ (m : ℕ). drop m (ys ++ zs)) (sym l) ∙ drop-append_seam ys zs
 
 -- Both halves are replaced, one after the other.
 replaced : {A : Type 0} (h : ℕ) (xs ys zs : List A) → length ys ≡ h → put_rest h zs (ys ++ drop h xs) ≡ ys ++ zs
 replaced {A} h xs ys zs l = patched-rest h zs (ys ++ drop h xs) ∙ ap (λ (l : List A). l ++ zs) (first_of h ys (drop h xs) l)
-
-pub replaced_long : {A : Type 0} (h : ℕ) (xs ys zs : List A) → length xs ≡ h + h → length ys ≡ length (take h xs)
-    → length zs ≡ length (rest h (ys ++ drop h xs)) → length (put_rest h zs (ys ++ drop h xs)) ≡ h + h
-replaced_long h xs ys zs l e f =
-    let first : length ys ≡ h = e ∙ first_long h xs l in
-    let second : length zs ≡ h = f ∙ rest_long h (ys ++ drop h xs) (front_long h xs ys l e) in
-    ap length (replaced h xs ys zs first) ∙ length-append ys zs ∙ ap₂ (λ (m n : ℕ). m + n) first second
-
--- ---- what the three products ask
-
-pub upper_matrix : (h : ℕ) (acc row v part : List ℕ) → Matrix (h + h) acc row v → length part ≡ 2 * h → Matrix h (take h acc) part (rest h v)
-upper_matrix h acc row v part m l = record {
-  sum_long = first_long h acc m.sum_long;
-  row_long = l;
-  vector_long = rest_long h v m.vector_long;
-}
-
-pub lower_matrix : (h : ℕ) (acc row v t part : List ℕ) → Matrix (h + h) acc row v → length t ≡ length (take h acc) → length part ≡ 2 * h
-    → Matrix h (rest h (t ++ drop h acc)) part (take h v)
-lower_matrix h acc row v t part m e l = record {
-  sum_long = rest_long h (t ++ drop h acc) (front_long h acc t m.sum_long e);
-  row_long = l;
-  vector_long = first_long h v m.vector_long;
-}
 
 -- ---- what the parts hold
 
@@ -141,10 +108,10 @@ whole h acc row v l =
     ∙ ap (λ (n : ℕ). residues 65536 n (plus (of_nats acc) (toeplitz n (of_nats row) (of_nats v)))) (sym l)
 
 -- The sum that is left in both halves is that of the whole matrix and vector.
-pub halves_joined : (h : ℕ) (acc row v : List ℕ) {both none mid above t below b t' b' : List ℕ} → Matrix (h + h) acc row v
+joined : (h : ℕ) (acc row v : List ℕ) {both none mid above t below b t' b' : List ℕ} → Matrix (h + h) acc row v
     → none ≡ replicate h 0
     → both ≡ folded h v
-    → mid ≡ with_toeplitz none (take (h + h + h - h) (drop h row)) both
+    → mid ≡ with_toeplitz none (take (h + (h + h) - h) (drop h row)) both
     → above ≡ row_difference 0 h (h + h) row
     → t ≡ with_toeplitz (take h acc) above (rest h v)
     → below ≡ row_difference (h + h) h (h + h) row
@@ -153,7 +120,7 @@ pub halves_joined : (h : ℕ) (acc row v : List ℕ) {both none mid above t belo
     → b' ≡ added (rest h (t' ++ drop h (put_rest h b (t ++ drop h acc)))) mid
     → put_rest h b' (t' ++ drop h (put_rest h b (t ++ drop h acc))) ≡ with_toeplitz acc row v
 unfolding folded row_difference
-halves_joined h acc row v {both} {none} {mid} {above} {t} {below} {b} {t'} {b'} m en eo em ea et eb ebb et' eb' =
+joined h acc row v {both} {none} {mid} {above} {t} {below} {b} {t'} {b'} m en eo em ea et eb ebb et' eb' =
     let r : Poly = of_nats row in
     let f : Poly = of_nats v in
     let acc-long : length acc ≡ h + h = m.sum_long in
@@ -183,7 +150,7 @@ halves_joined h acc row v {both} {none} {mid} {above} {t} {below} {b} {t'} {b'} 
     let hc : (i : ℕ) → i < h + h → Cong 65536 (of_nats below i) (minus (from (h + h) r) (from h r) i) =
     λ i hi. cong_trans (cong_of_eq (ap (λ (l : List ℕ). of_nats l i) eb)) (of_nats-residues some (h + h) (minus (from (h + h) r) (from h r)) hi)
     in
-    let same : h + h + h - h ≡ h + h = omega arith in
+    let same : h + (h + h) - h ≡ h + h = omega arith in
     let mid_at : (k : ℕ) → k < h → Cong 65536 (of_nats mid k) (toeplitz h (from h r) (of_nats both) k) =
     λ k hk. cong_trans (from_nothing h none (take (h + h) (drop h row)) both en (em ∙ ap (λ (n : ℕ). with_toeplitz none (take n (drop h row)) both) same) hk)
     (toeplitz_cong h (of_nats (take (h + h) (drop h row))) (from h r) (of_nats both) (of_nats both)
@@ -219,3 +186,18 @@ halves_joined h acc row v {both} {none} {mid} {above} {t} {below} {b} {t'} {b'} 
     replaced h (put_rest h b (t ++ drop h acc)) t' b' t'-long
     ∙ ap₂ (λ (x y : List ℕ). x ++ y) (t'-is ∙ top) (b'-is ∙ bottom)
     ∙ whole h acc row v acc-long
+
+-- The same of n entries, which are two halves of h.
+pub halves_joined : (h n : ℕ) (acc row v : List ℕ) {both none mid above t below b t' b' : List ℕ} → n ≡ h + h → Matrix n acc row v
+    → none ≡ replicate h 0
+    → both ≡ folded h v
+    → mid ≡ with_toeplitz none (take (h + n - h) (drop h row)) both
+    → above ≡ row_difference 0 h n row
+    → t ≡ with_toeplitz (take h acc) above (rest h v)
+    → below ≡ row_difference n h n row
+    → b ≡ with_toeplitz (rest h (t ++ drop h acc)) below (take h v)
+    → t' ≡ added (take h (put_rest h b (t ++ drop h acc))) mid
+    → b' ≡ added (rest h (t' ++ drop h (put_rest h b (t ++ drop h acc)))) mid
+    → put_rest h b' (t' ++ drop h (put_rest h b (t ++ drop h acc))) ≡ with_toeplitz acc row v
+halves_joined h n acc row v e m en eo em ea et eb ebb et' eb' =
+    joined h acc row v (rw e at m) en eo (rw e at em) (rw e at ea) et (rw e at eb) ebb et' eb'

@@ -1,29 +1,14 @@
 // Products of Toeplitz matrices with vectors, from three of half the length: of the middle matrix with the sum of the
 // vector's halves, and of what the upper and the lower one have more than it with one half each.
-ghost use Rattle.std.specs.Prelude.{◌≡◌, ◌+◌, ◌*◌, ◌≤◌, length, replicate};
+// Loops read a second list by place: a proof does not know what was written through `iter_mut().zip(..)`.
+#![tactic(auto, using(bits::proofs::Filling::filling_begun, bits::proofs::Filling::filling_all), unfolding(ring::specs::Poly::residues, crate::specs::Halves::folded, crate::specs::Halves::row_difference))]
+
+ghost use Rattle.std.specs.Prelude.{◌≡◌, ◌+◌, ◌*◌, ◌≤◌, length};
 ghost use Rattle.product.specs.Toeplitz.{Matrix, with_toeplitz};
 ghost use Rattle.product.specs.Halves.{folded, row_difference};
 
-use crate::rows::{toeplitz_64, zeros_64};
+use crate::rows::{Columns, Rows};
 use ring::poly::{add, difference, sum};
-
-fn zeros_128() -> [u16; 128]
-    ensures { result ≡ replicate 128 0 }
-{
-    [0; 128]
-}
-
-fn zeros_256() -> [u16; 256]
-    ensures { result ≡ replicate 256 0 }
-{
-    [0; 256]
-}
-
-fn zeros_512() -> [u16; 512]
-    ensures { result ≡ replicate 512 0 }
-{
-    [0; 512]
-}
 
 // The sum of both halves of v.
 fn fold(v: &[u16], dst: &mut [u16])
@@ -31,10 +16,8 @@ fn fold(v: &[u16], dst: &mut [u16])
     ensures { dst.new ≡ folded (length dst.old) v.now }
 {
     let h = dst.len();
-    let mut k = 0;
-    while k < h {
-        dst[k] = sum(v[k], v[h + k]);
-        k += 1;
+    for (k, x) in dst.iter_mut().enumerate() {
+        *x = sum(v[k], v[h + k]);
     }
 }
 
@@ -43,63 +26,47 @@ fn row_difference(row: &[u16], a: usize, b: usize, dst: &mut [u16])
     requires { (a + length dst.old ≤ length row.now) × (b + length dst.old ≤ length row.now) }
     ensures { dst.new ≡ row_difference a b (length dst.old) row.now }
 {
-    let mut k = 0;
-    while k < dst.len() {
-        dst[k] = difference(row[a + k], row[b + k]);
-        k += 1;
+    for (k, x) in dst.iter_mut().enumerate() {
+        *x = difference(row[a + k], row[b + k]);
     }
 }
 
-// Adds the product of a matrix of 128 rows with v.
-pub fn toeplitz_128(acc: &mut [u16], row: &[u16], v: &[u16])
-    requires { Matrix 128 acc.old row.now v.now }
+// Adds the product of a matrix of N rows with v, by R for half as many.
+fn by_halves<const H: usize, const N: usize, R: Rows<H>>(acc: &mut [u16], row: &[u16], v: &[u16])
+    requires halves { N ≡ H + H }
+    requires matrix { Matrix N acc.old row.now v.now }
     ensures { acc.new ≡ with_toeplitz acc.old row.now v.now }
 {
-    let mut both = zeros_64();
-    let mut middle = zeros_64();
-    let mut part = zeros_128();
+    let mut both = [0; H];
+    let mut middle = [0; H];
+    let mut part = [0; N];
     fold(v, &mut both);
-    toeplitz_64(&mut middle, &row[64..192], &both);
-    row_difference(row, 0, 64, &mut part);
-    toeplitz_64(&mut acc[..64], &part, &v[64..]);
-    row_difference(row, 128, 64, &mut part);
-    toeplitz_64(&mut acc[64..], &part, &v[..64]);
-    add(&mut acc[..64], &middle);
-    add(&mut acc[64..], &middle);
+    R::multiply_add(&mut middle, &row[H..H + N], &both);
+    row_difference(row, 0, H, &mut part);
+    R::multiply_add(&mut acc[..H], &part, &v[H..]);
+    row_difference(row, N, H, &mut part);
+    R::multiply_add(&mut acc[H..], &part, &v[..H]);
+    add(&mut acc[..H], &middle);
+    add(&mut acc[H..], &middle);
 }
 
-// Adds the product of a matrix of 256 rows with v.
-pub fn toeplitz_256(acc: &mut [u16], row: &[u16], v: &[u16])
-    requires { Matrix 256 acc.old row.now v.now }
-    ensures { acc.new ≡ with_toeplitz acc.old row.now v.now }
-{
-    let mut both = zeros_128();
-    let mut middle = zeros_128();
-    let mut part = zeros_256();
-    fold(v, &mut both);
-    toeplitz_128(&mut middle, &row[128..384], &both);
-    row_difference(row, 0, 128, &mut part);
-    toeplitz_128(&mut acc[..128], &part, &v[128..]);
-    row_difference(row, 256, 128, &mut part);
-    toeplitz_128(&mut acc[128..], &part, &v[..128]);
-    add(&mut acc[..128], &middle);
-    add(&mut acc[128..], &middle);
+// Down to 64 rows, which are multiplied by columns.
+pub struct Halves;
+
+impl Rows<128> for Halves {
+    fn multiply_add(acc: &mut [u16], row: &[u16], v: &[u16]) {
+        by_halves::<64, 128, Columns>(acc, row, v);
+    }
 }
 
-// Adds the product of a matrix of 512 rows with v.
-pub fn toeplitz_512(acc: &mut [u16], row: &[u16], v: &[u16])
-    requires { Matrix 512 acc.old row.now v.now }
-    ensures { acc.new ≡ with_toeplitz acc.old row.now v.now }
-{
-    let mut both = zeros_256();
-    let mut middle = zeros_256();
-    let mut part = zeros_512();
-    fold(v, &mut both);
-    toeplitz_256(&mut middle, &row[256..768], &both);
-    row_difference(row, 0, 256, &mut part);
-    toeplitz_256(&mut acc[..256], &part, &v[256..]);
-    row_difference(row, 512, 256, &mut part);
-    toeplitz_256(&mut acc[256..], &part, &v[..256]);
-    add(&mut acc[..256], &middle);
-    add(&mut acc[256..], &middle);
+impl Rows<256> for Halves {
+    fn multiply_add(acc: &mut [u16], row: &[u16], v: &[u16]) {
+        by_halves::<128, 256, Halves>(acc, row, v);
+    }
+}
+
+impl Rows<512> for Halves {
+    fn multiply_add(acc: &mut [u16], row: &[u16], v: &[u16]) {
+        by_halves::<256, 512, Halves>(acc, row, v);
+    }
 }

@@ -1,5 +1,8 @@
 // Products of Toeplitz matrices with vectors, two columns a turn, modulo 2^16.
-ghost use Rattle.std.specs.Prelude.{◌≡◌, ◌+◌, length, get_or, replicate};
+// Loops read a second list by place: a proof does not know what was written through `iter_mut().zip(..)`.
+#![tactic(auto, using(bits::proofs::Filling::filling_begun, bits::proofs::Filling::filling_all))]
+
+ghost use Rattle.std.specs.Prelude.{◌≡◌, ◌+◌, length, get_or};
 ghost use Rattle.keccak.specs.Lists.{tabulate};
 ghost use Rattle.ring.specs.Terms.{add_term};
 ghost use Rattle.product.specs.Toeplitz.{Matrix, with_toeplitz};
@@ -11,10 +14,8 @@ fn add_column(acc: &mut [u16], row: &[u16], a: u16)
     requires { length row.now ≡ length acc.old }
     ensures { acc.new ≡ tabulate (length acc.old) (λ k. add_term (get_or acc.old k 0) a (get_or row.now k 0)) }
 {
-    let mut k = 0;
-    while k < acc.len() {
-        acc[k] = add_term(acc[k], a, row[k]);
-        k += 1;
+    for (k, x) in acc.iter_mut().enumerate() {
+        *x = add_term(*x, a, row[k]);
     }
 }
 
@@ -24,10 +25,8 @@ fn add_two(acc: &mut [u16], row: &[u16], a: u16, b: u16)
     ensures { acc.new ≡ tabulate (length acc.old)
         (λ k. add_term (add_term (get_or acc.old k 0) a (get_or row.now (k + 1) 0)) b (get_or row.now k 0)) }
 {
-    let mut k = 0;
-    while k < acc.len() {
-        acc[k] = add_term(add_term(acc[k], a, row[k + 1]), b, row[k]);
-        k += 1;
+    for (k, x) in acc.iter_mut().enumerate() {
+        *x = add_term(add_term(*x, a, row[k + 1]), b, row[k]);
     }
 }
 
@@ -37,28 +36,30 @@ pub fn toeplitz_rows(acc: &mut [u16], row: &[u16], v: &[u16])
     ensures { acc.new ≡ with_toeplitz acc.old row.now v.now }
 {
     let n = acc.len();
-    let mut i = 0;
-    while 2 <= n - i {
+    for i in (0..n / 2 * 2).step_by(2) {
         add_two(acc, &row[n - 1 - i..2 * n - i], v[i], v[i + 1]);
-        i += 2;
     }
-    if i < n {
-        add_column(acc, &row[n - i..2 * n - i], v[i]);
+    if n % 2 == 1 {
+        add_column(acc, &row[1..n + 1], v[n - 1]);
     }
 }
 
-pub fn zeros_64() -> [u16; 64]
-    ensures { result ≡ replicate 64 0 }
-{
-    [0; 64]
+// A way to multiply matrices of N rows.
+pub trait Rows<const N: usize> {
+    // Adds the product of a matrix with v.
+    fn multiply_add(acc: &mut [u16], row: &[u16], v: &[u16])
+        requires { Matrix N acc.old row.now v.now }
+        ensures { acc.new ≡ with_toeplitz acc.old row.now v.now };
 }
 
-// Adds the product of a matrix of 64 rows with v. Its own 64 sums, of known number, stay in the processor's registers.
-pub fn toeplitz_64(acc: &mut [u16], row: &[u16], v: &[u16])
-    requires { Matrix 64 acc.old row.now v.now }
-    ensures { acc.new ≡ with_toeplitz acc.old row.now v.now }
-{
-    let mut sums = zeros_64();
-    toeplitz_rows(&mut sums, row, v);
-    add(acc, &sums);
+// Two columns a turn.
+pub struct Columns;
+
+impl Rows<64> for Columns {
+    // Its own 64 sums, of known number, stay in the processor's registers.
+    fn multiply_add(acc: &mut [u16], row: &[u16], v: &[u16]) {
+        let mut sums = [0; 64];
+        toeplitz_rows(&mut sums, row, v);
+        add(acc, &sums);
+    }
 }

@@ -1,20 +1,26 @@
 -- The checks of encrypt_each, and its exits: what the code knows of its parameters, its status, the comparison of the coins and
 -- what the inner function leaves gives what the call ensures; and before that, what the inner functions ask. Assumes nothing.
-use mathlib.Core.Path.{◌≡◌, sym, ◌∙◌}
-use mathlib.Core.Bool.{Bool, true, cond, not, ◌&&◌}
+use mathlib.Core.Path.{◌≡◌, refl, sym, ◌∙◌}
+use mathlib.Core.Bool.{Bool, true, false, cond, not, ◌&&◌}
 use mathlib.Core.List.{List}
 use Prim.Native.Nat.{ℕ, ◌*◌, ◌≤◌, ◌<◌}
 use native.Mathlib.Omega.{arith}
 use borrow.Author.Tests.{leb-false, ltb-false, not-false}
 use lib.Dec.{eqb, leb}
 use lib.ListN.{length}
+use Rattle.std.specs.Prelude.{Result}
+use Rattle.std.specs.Result.{IsErrAnd}
+use Rattle.calls.specs.declared.refusal.Refusal.{Refusal}
+use Rattle.calls.specs.declared.refusal.Refusal.TheVariants.{EqualCoins}
+use Rattle.calls.specs.Refusals.{number_of, status_of}
 use Rattle.kindi.specs.declared.Params.{Params}
-use Rattle.kindi.specs.Params.{WellFormed, is_set, of_set, public_length, ciphertext_length, padded_length, encrypt_work}
+use Rattle.kindi.specs.Params.{Parameters, is_set, of_set, public_length, ciphertext_length, padded_length, encrypt_work}
 use Rattle.kindi.specs.Answers.{Answer, refused, answered, refuse_if, differs, is_count, equal_coins, ciphertexts, encrypt_each}
 use Rattle.kindi.specs.Calls.{work_after, in_set, encrypt_each_call}
 use Rattle.kindi.proofs.Chains.{same_length}
 use Rattle.calls.proofs.Ends.{check_both, too_short, given, wiped_any}
 use Rattle.calls.proofs.Checked.{Checked, unchecked, check_first, zero_check, refused_number, refused_output, answered_number}
+use Rattle.calls.proofs.Refused.{refused_status, refusal_not_0}
 use Rattle.recipients.specs.Status.{encrypt_each_status}
 use Rattle.recipients.specs.Rooms.{PartsRoom}
 use Rattle.recipients.specs.Exits.{EncryptEachExit}
@@ -76,39 +82,48 @@ each_lengths set count P keys list message cts work e =
 
 -- ---- the exits
 
-module _ (set count : ℕ) (P : Params) (keys list message cts work : List ℕ) (status : ℕ) (are : P ≡ of_set set)
-    (is : status ≡ encrypt_each_status set P count (length keys) (length list) (length message) (length cts) (length work)) where
-  -- What the status says of the answer.
-  each_behind : Checked (encrypt_each_call set count keys list message (length cts) (length work)) (each_fitting P count keys list message) status
-  each_behind = rw (is, are) (each_checked set count keys list message (length cts) (length work))
+not-true : (b : Bool) → not b ≡ true → b ≡ false
+not-true true e = sym e
+not-true false e = refl
+
+module _ {set : ℕ} {P : Params} (count : ℕ) (keys list message cts work : List ℕ) (p : Parameters set P) where
+  -- What the checks say of the answer.
+  each_behind : {s : ℕ} → s ≡ encrypt_each_status set P count (length keys) (length list) (length message) (length cts) (length work)
+      → Checked (encrypt_each_call set count keys list message (length cts) (length work)) (each_fitting P count keys list message) s
+  each_behind is = rw (is, p.are) (each_checked set count keys list message (length cts) (length work))
 
   -- The exit of a refusal.
-  refusal : {need refusing : ℕ} {work' : List ℕ}
-      → encrypt_each_call set count keys list message (length cts) (length work) ≡ refused refusing → need ≡ encrypt_work P
-      → work' ≡ work_after set need work → EncryptEachExit set count keys list message cts work refusing cts work'
-  refusal is-refused n w = record {
-    returned = refused_number is-refused;
+  refusal : {A : Type 0} (r : Result A Refusal) (e : Refusal)
+      → encrypt_each_call set count keys list message (length cts) (length work) ≡ refused (number_of e) → IsErrAnd r (λ f. f ≡ e)
+      → EncryptEachExit set count keys list message cts work (status_of r) cts (work_after set (encrypt_work (of_set set)) work)
+  refusal r e is-refused passed = record {
+    returned = refused_status r e passed ∙ refused_number is-refused;
     ciphertexts = refused_output (λ c. c) cts is-refused;
-    wiped = rw (n, are) at w;
+    wiped = refl;
   }
 
   -- By the number of recipients or the lengths.
-  pub each_refused : {need : ℕ} {work' : List ℕ} → (status ≡ 0 → ⊥) → need ≡ encrypt_work P → work' ≡ work_after set need work
-      → EncryptEachExit set count keys list message cts work status cts work'
-  each_refused bad n w = refusal (each_behind.refuses bad) n w
+  pub each_refused : {A : Type 0} (r : Result A Refusal) (e : Refusal)
+      → number_of e ≡ encrypt_each_status set P count (length keys) (length list) (length message) (length cts) (length work)
+      → IsErrAnd r (λ f. f ≡ e)
+      → EncryptEachExit set count keys list message cts work (status_of r) cts (work_after set (encrypt_work (of_set set)) work)
+  each_refused r e is passed = refusal r e ((each_behind is).refuses (refusal_not_0 e)) passed
 
-  each_long : status ≡ 0 → EachLengths set count P (length keys) (length list) (length message) (length cts) (length work)
-  each_long e = each_lengths set count P (length keys) (length list) (length message) (length cts) (length work) (sym is ∙ e)
+  each_long : 0 ≡ encrypt_each_status set P count (length keys) (length list) (length message) (length cts) (length work)
+      → EachLengths set count P (length keys) (length list) (length message) (length cts) (length work)
+  each_long is = each_lengths set count P (length keys) (length list) (length message) (length cts) (length work) (sym is)
 
-  -- Where it is 0, the coins may be compared, and the inner function may be called.
-  pub each_coins_long : status ≡ 0 → length list ≡ count * P.coins
-  each_coins_long e = (each_long e).coins_long
+  -- Where no check refuses, the coins may be compared, and the inner function may be called.
+  pub each_coins_long : 0 ≡ encrypt_each_status set P count (length keys) (length list) (length message) (length cts) (length work)
+      → length list ≡ count * P.coins
+  each_coins_long is = (each_long is).coins_long
 
-  pub each_fits : WellFormed P → status ≡ 0 → PartsRoom P count keys list message cts work
-  each_fits well e =
-      let long = each_long e in
+  pub each_fits : 0 ≡ encrypt_each_status set P count (length keys) (length list) (length message) (length cts) (length work)
+      → PartsRoom P count keys list message cts work
+  each_fits is =
+      let long = each_long is in
       record {
-        well = well;
+        well = p.well;
         keys_long = long.keys_long;
         coins_long = long.coins_long;
         message_fits = long.message_fits;
@@ -116,26 +131,35 @@ module _ (set count : ℕ) (P : Params) (keys list message cts work : List ℕ) 
         work_long = long.work_long;
       }
 
-  module _ {found : Bool} {equal : ℕ} (passed : status ≡ 0) (compared : found ≡ equal_coins P count list) (second : equal ≡ cond found 14 0) where
-    -- What is known of the answer once the coins are compared.
-    coins_checked : Checked (encrypt_each_call set count keys list message (length cts) (length work))
-        (answered (ciphertexts P count keys list message)) equal
-    coins_checked = rw (each_behind.goes_on passed, second, compared) (check_first (equal_coins P count list) 14 (omega arith) unchecked)
+  -- What is known of the answer once the coins are compared.
+  coins_checked : (found : Bool) → 0 ≡ encrypt_each_status set P count (length keys) (length list) (length message) (length cts) (length work)
+      → found ≡ equal_coins P count list
+      → Checked (encrypt_each_call set count keys list message (length cts) (length work))
+      (answered (ciphertexts P count keys list message)) (cond found 14 0)
+  coins_checked found is compared = rw ((each_behind is).goes_on refl, compared) (check_first (equal_coins P count list) 14 (omega arith) unchecked)
 
-    -- The exit of refusal 14.
-    pub each_equal : {need : ℕ} {work' : List ℕ} → (equal ≡ 0 → ⊥) → need ≡ encrypt_work P → work' ≡ work_after set need work
-        → EncryptEachExit set count keys list message cts work equal cts work'
-    each_equal bad n w = refusal (coins_checked.refuses bad) n w
+  -- The exit of refusal 14.
+  pub each_equal : {A : Type 0} (r : Result A Refusal) (e : Refusal) (found : Bool)
+      → 0 ≡ encrypt_each_status set P count (length keys) (length list) (length message) (length cts) (length work)
+      → found ≡ equal_coins P count list → (not found ≡ false) × (e ≡ EqualCoins) → IsErrAnd r (λ f. f ≡ e)
+      → EncryptEachExit set count keys list message cts work (status_of r) cts (work_after set (encrypt_work (of_set set)) work)
+  each_equal r e found is compared bad passed =
+      let some : found ≡ true = not-false found bad.0 in
+      let second : number_of e ≡ cond found 14 0 = rw (bad.1, some) in
+      refusal r e (rw second ((coins_checked found is compared).refuses (λ z. refusal_not_0 e (second ∙ z)))) passed
 
-    -- The exit of success; `left` is what the inner function leaves in the work area.
-    pub each_exit : {need : ℕ} (left : List ℕ) {cts' work' : List ℕ} → equal ≡ 0 → cts' ≡ ciphertexts P count keys list message
-        → need ≡ encrypt_work P → length left ≡ length work → work' ≡ work_after set need left
-        → EncryptEachExit set count keys list message cts work 0 cts' work'
-    each_exit {need} left e made n l w =
-        let long = each_long passed in
-        let answer = coins_checked.goes_on e in
-        record {
-          returned = answered_number answer;
-          ciphertexts = made ∙ given (λ c. c) cts answer;
-          wiped = w ∙ wiped_any set need left work long.there (rw n long.work_long) l ∙ rw (n, are);
-        }
+  -- The exit of success; `left` is what the inner function leaves in the work area.
+  pub each_exit : (left : List ℕ) {cts' : List ℕ} (found : Bool)
+      → 0 ≡ encrypt_each_status set P count (length keys) (length list) (length message) (length cts) (length work) → found ≡ equal_coins P count list
+      → not found ≡ true
+      → cts' ≡ ciphertexts P count keys list message → length left ≡ length work
+      → EncryptEachExit set count keys list message cts work 0 cts' (work_after set (encrypt_work (of_set set)) left)
+  each_exit left found is compared good made l =
+      let long = each_long is in
+      let none : found ≡ false = not-true found good in
+      let answer = (coins_checked found is compared).goes_on (rw none) in
+      record {
+        returned = answered_number answer;
+        ciphertexts = made ∙ given (λ c. c) cts answer;
+        wiped = wiped_any set _ left work long.there (rw (← p.are) long.work_long) l;
+      }

@@ -1,11 +1,11 @@
 -- Each kind: its record gives what its call leaves, where the checks before the call fail and where they pass. Assumes nothing.
 use mathlib.Core.Path.{◌≡◌, refl, sym, ap, ◌∙◌}
-use mathlib.Core.Bool.{true}
+use mathlib.Core.Bool.{true, not}
 use mathlib.Core.List.{List, ◌++◌}
 use Prim.Native.Nat.{ℕ, ◌+◌, ◌-◌, ◌*◌, ◌≤◌}
 use native.Mathlib.Omega.{arith}
 use borrow.Author.Tests.{ne_eqb}
-use lib.Dec.{ltb}
+use lib.Dec.{ltb, leb}
 use lib.ListN.{length, take, drop, replicate, length-append}
 use lib.Seq.{length-take-le}
 use Rattle.keccak.proofs.Parts.{take_rest}
@@ -16,12 +16,12 @@ use Rattle.kindi.specs.Calls.{number, output, returned, message_output}
 use Rattle.kindi.proofs.Called.{keygen_called, encrypt_called, encaps_called, decrypt_called, decaps_called}
 use Rattle.kindi.proofs.Called.{keygen_proper, encrypt_proper, encaps_proper, decrypt_proper, decaps_proper}
 use Rattle.calls.proofs.Checked.{given_returned}
+use Rattle.calls.proofs.Ends.{too_short}
 use Rattle.encryption_calls.specs.Exits.{KeygenExit, EncryptExit, EncapsExit}
 use Rattle.decryption_calls.specs.Exits.{DecryptExit, DecapsExit}
-use Rattle.record_calls.specs.declared.Outcome.{Outcome}
 use Rattle.record_calls.specs.Bodies.{one_part, two_parts, keygen_body, encrypt_body, decrypt_body, encaps_body, decaps_body, kind_body}
 use Rattle.record_calls.specs.Bodies.{body_bytes, wrong_length, record_parts}
-use Rattle.record_calls.specs.Outputs.{OutcomeOf, work_bytes, record_work, AnswerExit}
+use Rattle.record_calls.specs.Outputs.{Outcome, OutcomeOf, work_bytes, record_work, AnswerExit}
 use Rattle.record_calls.proofs.Outcomes.{Lent, lent_length, lent_after, no_zeros, untouched, wiped_front, gives, early, early_gives, Ready, ready_gives}
 
 -- ---- lent parts
@@ -76,10 +76,12 @@ keygen_gives {set} {a} {b} {w} {P = P} {body} {first} {second} {work} {pk'} {sk'
 
 -- A check before the call fails; s is the length of the public key.
 pub encrypt-early : (body : List ℕ) {set s status m n : ℕ} {P : Params} {first second work : List ℕ} {r : Outcome}
-    → Parameters set P → s ≡ public_length P → status ≡ early set (ltb (length body) (s + P.coins)) → (status ≡ 0 → ⊥)
+    → Parameters set P → s ≡ public_length P → status ≡ early set (not (leb (s + P.coins) (length body))) → (status ≡ 0 → ⊥)
     → OutcomeOf status m n r → AnswerExit 2 set body first second work r first second work
 unfolding wrong_length body_bytes
-encrypt-early body p es is wrong o = early_gives 2 body p (rw es at is) wrong o
+encrypt-early body {s = s} {P = P} p es is wrong o =
+    let short = rw (too_short (s + P.coins) (length body)) at is in
+    early_gives 2 body p (rw es at short) wrong o
 
 -- The checks pass: the record gives what the call leaves; s, a and w are the lengths of the public key, the ciphertext and the work area.
 pub encrypt_gives : {set s a w status : ℕ} {P : Params} {body first second work ct' work' : List ℕ} {r : Outcome}
@@ -239,12 +241,7 @@ decaps_gives {set} {s} {t} {w} {P = P} {body} {first} {second} {work} {key'} ok 
 -- ---- the call that a kind names
 
 module _ (kind set : ℕ) (body first second work : List ℕ) (r : Outcome) (first' second' work' : List ℕ) where
-  -- A kind from 1 to 4 is itself.
-  pub kind_is : (k : ℕ) → kind ≡ k → AnswerExit k set body first second work r first' second' work'
-      → AnswerExit kind set body first second work r first' second' work'
-  kind_is k e g = rw e g
-
-  -- Any other is 5.
+  -- A kind that is not 1 to 4 is 5.
   pub kind_5 : (kind ≡ 1 → ⊥) → (kind ≡ 2 → ⊥) → (kind ≡ 3 → ⊥) → (kind ≡ 4 → ⊥)
       → AnswerExit 5 set body first second work r first' second' work' → AnswerExit kind set body first second work r first' second' work'
   unfolding record_parts record_work kind_body wrong_length body_bytes work_bytes

@@ -6,19 +6,25 @@ use mathlib.Core.List.{List, [], ◌++◌, append_assoc, append-nil}
 use Prim.Native.Nat.{ℕ, ◌≤◌}
 use native.Mathlib.Omega.{arith}
 use borrow.Author.Tests.{eq-eqb, ne_eqb, ltb-false}
-use lib.Dec.{ltb}
+use lib.Dec.{ltb, leb}
 use lib.ListN.{length, take, drop, replicate, length-replicate, take-append-drop}
 use lib.Seq.{length-take-le, take-append_seam}
+use Rattle.std.specs.Prelude.{Result}
+use Rattle.std.specs.Result.{IsErrAnd}
+use Rattle.calls.specs.declared.refusal.Refusal.{Refusal}
+use Rattle.calls.specs.Refusals.{number_of}
+use Rattle.calls.proofs.Refused.{refused_status, refused_value, refusal_not_0}
 use Rattle.kindi.specs.declared.Params.{Params}
 use Rattle.kindi.specs.Params.{Parameters, is_set, of_set}
 use Rattle.kindi.specs.Answers.{Answer, refused, answered, refuse_if, then, differs}
 use Rattle.kindi.specs.Calls.{number, output, returned, work_after, in_set}
 use Rattle.kindi.proofs.Chains.{never, same_length}
 use Rattle.kindi.proofs.Called.{Proper}
-use Rattle.calls.proofs.Ends.{given as ends_given, work_wiped}
-use Rattle.record_calls.specs.declared.Outcome.{Outcome}
+use Rattle.calls.proofs.Ends.{given as ends_given, work_wiped, too_short}
+use Rattle.record_calls.specs.declared.Output.{Output}
 use Rattle.record_calls.specs.Bodies.{Parts, kind_body, wrong_length, record_parts, joined}
-use Rattle.record_calls.specs.Outputs.{first_most, second_most, Room, OutcomeOf, with_front, first_after, second_after, work_bytes, record_work}
+use Rattle.record_calls.specs.Outputs.{first_most, second_most, Room, Outcome, outcome_of}
+use Rattle.record_calls.specs.Outputs.{OutcomeOf, with_front, first_after, second_after, work_bytes, record_work}
 use Rattle.record_calls.specs.Outputs.{Gives, AnswerExit}
 use Rattle.record_calls.proofs.Sizes.{Sized, sized}
 
@@ -69,6 +75,18 @@ wiped_front set w need work there e fits is =
     rw (is ∙ zeros, long, length-replicate {A = ℕ} need 0, e) refl
 
 -- ---- an outcome
+
+-- The outcome of a refusal that is passed on.
+pub refused_outcome : (m n : ℕ) (r : Result Output Refusal) (e : Refusal) → IsErrAnd r (λ f. f ≡ e) → OutcomeOf (number_of e) m n (outcome_of r)
+refused_outcome m n r e passed = record {
+  status_is = refused_status r e passed;
+  first_is = sym (refused_value (λ o. o.first) r e passed) ∙ rw (ne_eqb (number_of e) 0 (refusal_not_0 e)) refl;
+  second_is = sym (refused_value (λ o. o.second) r e passed) ∙ rw (ne_eqb (number_of e) 0 (refusal_not_0 e)) refl;
+}
+
+-- And of success.
+pub answered_outcome : (m n : ℕ) → OutcomeOf 0 m n (record { status = 0; first = m; second = n })
+answered_outcome m n = record { status_is = refl; first_is = refl; second_is = refl }
 
 -- A refusal's: every buffer is as it was.
 refused_gives : {status m n : ℕ} {r : Outcome} {answer : Answer Parts} {wiped first second first' second' work' : List ℕ}
@@ -192,9 +210,9 @@ module _ {set asked status : ℕ} {P : Params} {body first second work : List �
       record { are = p.are; size = sized P p.well; there = ok.0; fits = ok.1; long = omega arith; room = room }
 
   -- Where it may be longer.
-  pub ready_least : status ≡ early set (ltb (length body) asked) → status ≡ 0 → Ready set P ltb asked body first second work
+  pub ready_least : status ≡ early set (not (leb asked (length body))) → status ≡ 0 → Ready set P ltb asked body first second work
   ready_least is zero_is =
-      let ok = both_pass _ _ is zero_is in
+      let ok = both_pass _ _ (rw (too_short asked (length body)) at is) zero_is in
       record { are = p.are; size = sized P p.well; there = ok.0; fits = ok.1; long = ltb-false _ _ ok.1; room = room }
 
 -- Then the record gives what the call does, and what the call was lent of the work area is zeros.

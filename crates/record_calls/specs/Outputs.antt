@@ -1,11 +1,13 @@
 -- What the calls over bodies ask and leave: room for the outputs of every set, and each lent buffer at exit. A primed name is a
--- buffer at exit. Rests on Bodies and the struct `Outcome` of src/.
-use Rattle.std.specs.Prelude.{◌≡◌, List, ◌++◌, cond, not, ◌&&◌, ◌||◌, ℕ, ◌≤◌, eqb, length, drop, replicate}
+-- buffer at exit. Rests on Bodies, the refusals of `calls` and the struct `Output` of src/.
+use Rattle.std.specs.Prelude.{◌≡◌, List, ◌++◌, cond, not, ◌&&◌, ◌||◌, ℕ, ◌≤◌, eqb, length, drop, replicate, Result}
 use Rattle.kindi.specs.declared.Params.{Params}
 use Rattle.kindi.specs.Params.{is_set, of_set, keygen_work, encrypt_work, decrypt_work}
 use Rattle.kindi.specs.Answers.{Answer}
 use Rattle.kindi.specs.Calls.{number, output, returned}
-use Rattle.record_calls.specs.declared.Outcome.{Outcome}
+use Rattle.calls.specs.declared.refusal.Refusal.{Refusal}
+use Rattle.calls.specs.Refusals.{status_of, value_of}
+use Rattle.record_calls.specs.declared.Output.{Output}
 use Rattle.record_calls.specs.Bodies.{Parts, wrong_length, record_parts}
 
 -- The most bytes of an output's first and second part, over all parameters that are well formed.
@@ -20,6 +22,16 @@ pub record Room (first second work : List ℕ) : Type 0 where
   pub first_long : first_most ≤ length first
   pub second_long : second_most ≤ length second
   pub work_long : 65536 ≤ length work
+
+-- What a call answered: its status, and how many bytes of its output stand in the first and in the second buffer.
+pub record Outcome : Type 0 where
+  pub status : ℕ
+  pub first : ℕ
+  pub second : ℕ
+
+-- What a result says: a refusal has no output.
+abbrev pub outcome_of : Result Output Refusal → Outcome
+outcome_of r = record { status = status_of r; first = value_of (λ o. o.first) r; second = value_of (λ o. o.second) r }
 
 -- The outcome of a status and two lengths, which count where it is 0.
 pub record OutcomeOf (status first second : ℕ) (r : Outcome) : Type 0 where

@@ -8,7 +8,7 @@ use Rattle.kindi.specs.Params.{of_set}
 use Rattle.kindi.specs.Calls.{number, output, in_set}
 use Rattle.lines.specs.Line.{decimal_in, decimal, fields, output_field, line, end_line}
 use Rattle.record_calls.specs.Bodies.{body_bytes, wrong_length, record_parts, joined, record_answer}
-use Rattle.records.specs.Header.{header_number, read_header}
+use Rattle.records.specs.Header.{read_header}
 use Rattle.records.specs.Record.{step_by, step, step_line}
 use Rattle.records.specs.Transcript.{lines_of, lines_from, record_lines, transcript}
 
@@ -26,7 +26,7 @@ text =
     ∷ 52 ∷ 32 ∷ 45 ∷ 32 ∷ 49 ∷ 49 ∷ 32 ∷ 48 ∷ 32 ∷ 45 ∷ 10 ∷ 101 ∷ 110 ∷ 100 ∷ 32 ∷ 52 ∷ 10 ∷ []
 
 pub example : transcript input ≡ text
-unfolding transcript record_lines lines_from lines_of step step_by step_line read_header header_number
+unfolding transcript record_lines lines_from lines_of step step_by step_line read_header
     record_answer joined record_parts wrong_length body_bytes in_set refuse_if then of_set number output concat_map
     decimal_in decimal fields output_field line end_line
 example = refl

@@ -10,14 +10,16 @@ use native.Mathlib.Numerals.{add-one}
 use native.Mathlib.Omega.{arith}
 use borrow.Author.Tests.{leb-true, leb-false}
 use lib.ListN.{length, drop}
+use Rattle.std.specs.Prelude.{Result, Ok, Err}
 use Rattle.keccak.specs.Lists.{concat_map}
 use Rattle.kindi.specs.Calls.{number, output}
 use Rattle.kindi.proofs.Chains.{never}
 use Rattle.lines.specs.Line.{kind_field, end_line, feeds}
 use Rattle.lines.proofs.Texts.{feeds-append, line-feeds, kind_feeds, end_feeds}
 use Rattle.records.specs.declared.header.Header.{Header}
-use Rattle.records.specs.declared.header.Header.TheVariants.{Whole, End, Short, Unmarked, Cut, Unknown}
-use Rattle.records.specs.Header.{header_number, read_header, shows_record}
+use Rattle.records.specs.declared.header.Unread.{Unread}
+use Rattle.records.specs.declared.header.Unread.TheVariants.{End, Short, Unmarked, Cut, Unknown}
+use Rattle.records.specs.Header.{read_header, shows_record}
 use Rattle.records.specs.Record.{Step, finished, stopped, answers, step_by, step, most_records, step_line}
 use Rattle.records.specs.Record.{done_after, consumed, reading_ends}
 use Rattle.records.specs.Transcript.{lines_of, lines_from, record_lines, transcript, Run, ends, goes_on}
@@ -112,14 +114,15 @@ unfolding lines_from lines_of
 stopped_lines most i rest e = rw e refl
 
 -- Reading ends with no other numbers.
-stopped_by : (rest : List ℕ) (header : Header) {status : ℕ} → step_by rest header ≡ stopped status → (status ≡ 10) ⊎ (status ≡ 11)
-unfolding step_by header_number
-stopped_by rest (Whole kind set body) e = never (cc)
-stopped_by rest End e = never (cc)
-stopped_by rest Short e = inr (cc)
-stopped_by rest Unmarked e = inl (cc)
-stopped_by rest Cut e = inr (cc)
-stopped_by rest (Unknown kind body) e = never (cc)
+stopped_by : (rest : List ℕ) (header : Result Header Unread) {status : ℕ} → step_by rest header ≡ stopped status
+    → (status ≡ 10) ⊎ (status ≡ 11)
+unfolding step_by
+stopped_by rest (Ok header) e = never (cc)
+stopped_by rest (Err End) e = never (cc)
+stopped_by rest (Err Short) e = inr (cc)
+stopped_by rest (Err Unmarked) e = inl (cc)
+stopped_by rest (Err Cut) e = inr (cc)
+stopped_by rest (Err (Unknown kind body)) e = never (cc)
 
 pub stopped_number : (rest : List ℕ) {status : ℕ} → step rest ≡ stopped status → (status ≡ 10) ⊎ (status ≡ 11)
 unfolding step

@@ -1,92 +1,39 @@
 -- Laws of windows: what is left is moved to the front byte by byte; a window that shows its record gives the step of the whole
 -- rest. Assumes nothing.
-use mathlib.Core.Path.{◌≡◌, refl, sym, ap, ap₂, ◌∙◌}
+use mathlib.Core.Path.{◌≡◌, refl, sym, ap, ◌∙◌}
 use mathlib.Core.Bool.{Bool, true, false, cond, not, ◌||◌}
-use mathlib.Core.List.{List, [], ◌∷◌, ◌++◌}
+use mathlib.Core.List.{List, ◌++◌}
 use mathlib.Core.Logic.{inl, ⊎_elim}
-use Prim.Native.Nat.{ℕ, ◌+◌, ◌≤◌, ◌<◌}
-use native.Mathlib.Nat.{add_comm}
-use native.Mathlib.Numerals.{add-one}
+use Prim.Native.Nat.{ℕ, ◌+◌, ◌-◌, ◌≤◌, ◌<◌}
+use native.Mathlib.Nat.{zero-add}
 use native.Mathlib.Omega.{arith}
-use borrow.Author.Tests.{le-leb, lt-leb, le-ltb, lt-ltb, ne_eqb, ltb-false, leb-true}
-use lib.ListN.{length, take, drop, get_or, set, length-set, length-drop, length-append, get_or-append, take-append-drop}
+use borrow.Author.Tests.{le-leb, le-ltb, ne_eqb, ltb-false, leb-true}
+use lib.ListN.{length, take, drop, get_or, set, length-drop, length-append, get_or-append, take-append-drop}
 use lib.Dec.{eqb, leb, ltb}
-use lib.Seq.{take-suc, take-suc-set, drop-set-lt, drop-drop, get_or-drop, take-append-le, drop-append-le}
+use lib.Seq.{take-append-le, drop-append-le}
+use Rattle.std.specs.Prelude.{Result, Ok, Err}
+use Rattle.std.specs.List.{copy_within}
 use Rattle.kindi.proofs.Chains.{both}
 use Rattle.record_calls.specs.Bodies.{record_answer}
 use Rattle.record_calls.specs.Outputs.{record_work}
 use Rattle.records.specs.declared.header.Header.{Header}
-use Rattle.records.specs.declared.header.Header.TheVariants.{Whole, End, Short, Unmarked, Cut, Unknown}
+use Rattle.records.specs.declared.header.Unread.{Unread}
+use Rattle.records.specs.declared.header.Unread.TheVariants.{End, Short, Unmarked, Cut, Unknown}
 use Rattle.records.specs.Header.{header_length, longest_body, is_marked, kind_of, set_of, body_length, is_cut, is_kind}
 use Rattle.records.specs.Header.{read_header, shows_record}
 use Rattle.records.specs.Record.{answers, step_by, step, consumed}
 use Rattle.records.specs.Steps.{buffer_by, step_first, step_second, step_work}
 use Rattle.records.specs.Transcript.{Window}
-use Rattle.records.proofs.Headers.{Marked, whole_there, unknown_there}
+use Rattle.records.proofs.Headers.{whole_there, unknown_there}
 
 -- ---- moving to the front
 
--- What `to_front` carries: the part stands within the buffer b₀, i bytes of it have been moved to the front, and what stands behind
--- them is as it was.
-pub record Moved (b₀ : List ℕ) (from left i : ℕ) (b : List ℕ) : Type 0 where
-  pub there : from + left ≤ length b₀
-  pub within : i ≤ left
-  pub long : length b ≡ length b₀
-  pub so_far : take i b ≡ take i (drop from b₀)
-  pub behind : drop i b ≡ drop i b₀
-
-module _ {b₀ : List ℕ} {from left i : ℕ} {b : List ℕ} (h : Moved b₀ from left i b) where
-  -- The byte that is read is still the one of the part.
-  read_byte : get_or b (from + i) 0 ≡ get_or (drop from b₀) i 0
-  read_byte =
-      ap (λ (k : ℕ). get_or b k 0) (add_comm from i) ∙ sym (get_or-drop i b from 0) ∙ ap (λ (l : List ℕ). get_or l from 0) h.behind
-      ∙ get_or-drop i b₀ from 0 ∙ ap (λ (k : ℕ). get_or b₀ k 0) (add_comm i from) ∙ sym (get_or-drop from b₀ i 0)
-
-  -- One byte more.
-  pub moved_more : i < left → Moved b₀ from left (i + 1) (set b i (get_or b (from + i) 0))
-  moved_more in-it =
-      let v = get_or b (from + i) 0 in
-      let room : i < length b = omega arith in
-      let inside : i < length (drop from b₀) = simp length-drop (omega arith) in
-      record {
-        there = h.there;
-        within = omega arith;
-        long = length-set b i v ∙ h.long;
-        so_far = rw add-one
-            (take-suc-set b i v room ∙ ap₂ (λ (l : List ℕ) (x : ℕ). l ++ (x ∷ [])) h.so_far read_byte
-            ∙ sym (take-suc (drop from b₀) i 0 inside));
-        behind = drop-set-lt (i + 1) b i v (omega arith) ∙ sym (drop-drop 1 i b) ∙ ap (drop 1) h.behind ∙ drop-drop 1 i b₀;
-      }
-
-  -- After the last byte.
-  pub moved_all : left ≤ i → b ≡ take left (drop from b₀) ++ drop left b₀
-  moved_all last =
-      let all : i ≡ left = omega arith in
-      rw (← all) (sym (take-append-drop i b) ∙ ap₂ ◌++◌ h.so_far h.behind)
+-- What was copied to the front, in the words of `to_front`.
+pub moved_front : (buffer : List ℕ) (from to : ℕ)
+    → copy_within buffer from to 0 ≡ take (to - from) (drop from buffer) ++ drop (to - from) buffer
+moved_front buffer from to = simp zero-add
 
 -- ---- what a window shows
-
--- A window that shows its record: its header is there; and the mark is another one, or the length is over the longest, or the body
--- is there.
-pub shown_short : (window : List ℕ) → length window < 6 → false ≡ shows_record window
-unfolding shows_record
-shown_short window few = simp (lt-leb 6 (length window) few)
-
-pub shown_unmarked : (window : List ℕ) → 6 ≤ length window → not (is_marked window) ≡ true → true ≡ shows_record window
-unfolding shows_record
-shown_unmarked window enough e = simp (le-leb 6 (length window) enough, e)
-
-pub shown_long : (window : List ℕ) (body : ℕ) → Marked window body → 8192 < body → true ≡ shows_record window
-unfolding shows_record
-shown_long window body m long =
-    let over : 8192 < body_length window = omega (arith, m.is_body, long) in
-    simp (le-leb 6 (length window) m.enough, m.mark, lt-ltb _ _ over)
-
-pub shown_body : (window : List ℕ) (body : ℕ) → Marked window body → body ≤ 8192 → leb (6 + body) (length window) ≡ shows_record window
-unfolding shows_record
-shown_body window body m short =
-    let within : body_length window ≤ 8192 = omega (arith, m.is_body, short) in
-    simp (le-leb 6 (length window) m.enough, m.mark, le-ltb _ _ within, m.is_body)
 
 -- The body is over the longest or it is there, in a window of the longest record.
 over-or_there : (over : Bool) (body len : ℕ) → ltb 8192 body ≡ over → 8198 ≤ len → over || leb (6 + body) len ≡ true
@@ -107,17 +54,21 @@ longest_shown window h =
 -- ---- a window and what follows it
 
 -- The header by its fields and what is left: the checks after that of the mark, and all.
-abbrev after_mark : ℕ → ℕ → ℕ → ℕ → Header
-after_mark left kind set body = cond (is_cut left body) Cut (cond (not (is_kind kind)) (Unknown kind body) (Whole kind set body))
+abbrev after_mark : ℕ → ℕ → ℕ → ℕ → Result Header Unread
+after_mark left kind set body =
+    cond (is_cut left body) (Err Cut)
+    (cond (not (is_kind kind)) (Err (Unknown kind body)) (Ok (record { kind = kind; set = set; body = body })))
 
-abbrev header_by : ℕ → Bool → ℕ → ℕ → ℕ → Header
+abbrev header_by : ℕ → Bool → ℕ → ℕ → ℕ → Result Header Unread
 header_by left marked kind set body =
-    cond (eqb left 0) End (cond (ltb left 6) Short (cond (not marked) Unmarked (after_mark left kind set body)))
+    cond (eqb left 0) (Err End)
+    (cond (ltb left 6) (Err Short) (cond (not marked) (Err Unmarked) (after_mark left kind set body)))
 
 -- More of what is left changes nothing, once the record is shown: the checks of the mark, the length and the kind, and all checks.
 same_checks : (left more : ℕ) (marked over : Bool) (kind set body : ℕ) → ltb 8192 body ≡ over
     → not marked || (over || leb (6 + body) left) ≡ true
-    → cond (not marked) Unmarked (after_mark (left + more) kind set body) ≡ cond (not marked) Unmarked (after_mark left kind set body)
+    → cond (not marked) (Err Unmarked) (after_mark (left + more) kind set body)
+    ≡ cond (not marked) (Err Unmarked) (after_mark left kind set body)
 same_checks left more false over kind set body e s = refl
 same_checks left more true true kind set body e s = simp e
 same_checks left more true false kind set body e s =
@@ -149,31 +100,27 @@ module _ (window more : List ℕ) where
       ap (take body) (drop-append-le 6 window more (omega arith))
       ∙ take-append-le body (drop 6 window) more (simp length-drop (omega arith))
 
-  same_step : (header : Header) → header ≡ read_header window → step_by (window ++ more) header ≡ step_by window header
+  same_step : (header : Result Header Unread) → header ≡ read_header window → step_by (window ++ more) header ≡ step_by window header
   unfolding step_by
-  same_step (Whole kind set body) e =
-      ap (λ (bytes : List ℕ). answers kind (record_answer kind set bytes) (6 + body)) (same_body body (whole_there window e))
-  same_step End e = refl
-  same_step Short e = refl
-  same_step Unmarked e = refl
-  same_step Cut e = refl
-  same_step (Unknown kind body) e = refl
+  same_step (Ok h) e =
+      ap (λ (bytes : List ℕ). answers h.kind (record_answer h.kind h.set bytes) (6 + h.body)) (same_body h.body (whole_there window e))
+  same_step (Err End) e = refl
+  same_step (Err Short) e = refl
+  same_step (Err Unmarked) e = refl
+  same_step (Err Cut) e = refl
+  same_step (Err (Unknown kind body)) e = refl
 
   -- And gives its step.
   pub shown_step : shows_record window ≡ true → step (window ++ more) ≡ step window
   unfolding step
   shown_step e = ap (step_by (window ++ more)) (shown_header e) ∙ same_step (read_header window) refl
 
-  same_buffer : (after : ℕ → ℕ → List ℕ → List ℕ → List ℕ) (entry : List ℕ) (header : Header) → header ≡ read_header window
-      → buffer_by after (window ++ more) entry header ≡ buffer_by after window entry header
+  same_buffer : (after : ℕ → ℕ → List ℕ → List ℕ → List ℕ) (entry : List ℕ) (header : Result Header Unread)
+      → header ≡ read_header window → buffer_by after (window ++ more) entry header ≡ buffer_by after window entry header
   unfolding buffer_by
-  same_buffer after entry (Whole kind set body) e =
-      ap (λ (bytes : List ℕ). after kind set bytes entry) (same_body body (whole_there window e))
-  same_buffer after entry End e = refl
-  same_buffer after entry Short e = refl
-  same_buffer after entry Unmarked e = refl
-  same_buffer after entry Cut e = refl
-  same_buffer after entry (Unknown kind body) e = refl
+  same_buffer after entry (Ok h) e =
+      ap (λ (bytes : List ℕ). after h.kind h.set bytes entry) (same_body h.body (whole_there window e))
+  same_buffer after entry (Err unread) e = refl
 
   -- And leaves a buffer of the call as it does.
   shown_buffer : (after : ℕ → ℕ → List ℕ → List ℕ → List ℕ) (entry : List ℕ) → shows_record window ≡ true
@@ -213,14 +160,14 @@ pub longest_step : (window rest : List ℕ) → window ≡ take (length window) 
 longest_step window rest front long = window_step window rest (record { front = front; enough = inl (longest_shown window long) })
 
 -- A step reads no more than is left.
-within_by : (rest : List ℕ) (header : Header) → header ≡ read_header rest → consumed (step_by rest header) ≤ length rest
+within_by : (rest : List ℕ) (header : Result Header Unread) → header ≡ read_header rest → consumed (step_by rest header) ≤ length rest
 unfolding step_by consumed
-within_by rest (Whole kind set body) e = whole_there rest e
-within_by rest End e = omega arith
-within_by rest Short e = omega arith
-within_by rest Unmarked e = omega arith
-within_by rest Cut e = omega arith
-within_by rest (Unknown kind body) e = unknown_there rest e
+within_by rest (Ok header) e = whole_there rest e
+within_by rest (Err End) e = omega arith
+within_by rest (Err Short) e = omega arith
+within_by rest (Err Unmarked) e = omega arith
+within_by rest (Err Cut) e = omega arith
+within_by rest (Err (Unknown kind body)) e = unknown_there rest e
 
 pub consumed_within : (rest : List ℕ) → consumed (step rest) ≤ length rest
 unfolding step

@@ -1,8 +1,9 @@
 -- The header of a record (01, "Records on standard input"): the mark 4B 4E, a kind byte, a set byte, a two-byte length with its
--- low byte first, at the front of what is left of the input. Rests on the enum `Header` of src/.
-use Rattle.std.specs.Prelude.{Bool, true, false, cond, not, ◌&&◌, ◌||◌, List, ℕ, ◌+◌, ◌*◌, eqb, leb, ltb, length, get_or}
+-- low byte first, at the front of what is left of the input. Rests on the struct `Header` and the enum `Unread` of src/.
+use Rattle.std.specs.Prelude.{Bool, cond, not, ◌&&◌, ◌||◌, List, ℕ, ◌+◌, ◌*◌, eqb, leb, ltb, length, get_or, Result, Ok, Err}
 use Rattle.records.specs.declared.header.Header.{Header}
-use Rattle.records.specs.declared.header.Header.TheVariants.{Whole, End, Short, Unmarked, Cut, Unknown}
+use Rattle.records.specs.declared.header.Unread.{Unread}
+use Rattle.records.specs.declared.header.Unread.TheVariants.{End, Short, Unmarked, Cut, Unknown}
 
 -- The bytes of a header, and the longest body.
 abbrev pub header_length : ℕ
@@ -33,32 +34,23 @@ abbrev pub is_kind : ℕ → Bool
 is_kind kind = leb 1 kind && leb kind 5
 
 -- A header is either whole or refused: its checks are the first part of 11, 10, the rest of 11, 12.
-unfoldable pub read_header : List ℕ → Header
+unfoldable pub read_header : List ℕ → Result Header Unread
 read_header rest =
-    cond (eqb (length rest) 0) End
-    (cond (ltb (length rest) header_length) Short
-    (cond (not (is_marked rest)) Unmarked
-    (cond (is_cut (length rest) (body_length rest)) Cut
-    (cond (not (is_kind (kind_of rest))) (Unknown (kind_of rest) (body_length rest))
-    (Whole (kind_of rest) (set_of rest) (body_length rest))))))
+    cond (eqb (length rest) 0) (Err End)
+    (cond (ltb (length rest) header_length) (Err Short)
+    (cond (not (is_marked rest)) (Err Unmarked)
+    (cond (is_cut (length rest) (body_length rest)) (Err Cut)
+    (cond (not (is_kind (kind_of rest))) (Err (Unknown (kind_of rest) (body_length rest)))
+    (Ok (record { kind = kind_of rest; set = set_of rest; body = body_length rest }))))))
 
 -- 01's number for each case: the refusal number; 0 where the header is whole, and at the end of the input.
-unfoldable pub header_number : Header → ℕ
-header_number (Whole kind set body) = 0
-header_number End = 0
-header_number Short = 11
-header_number Unmarked = 10
-header_number Cut = 11
-header_number (Unknown kind body) = 12
-
--- Whether a header is whole.
-unfoldable pub is_whole : Header → Bool
-is_whole (Whole kind set body) = true
-is_whole End = false
-is_whole Short = false
-is_whole Unmarked = false
-is_whole Cut = false
-is_whole (Unknown kind body) = false
+abbrev pub header_number : Result Header Unread → ℕ
+header_number (Ok header) = 0
+header_number (Err End) = 0
+header_number (Err Short) = 11
+header_number (Err Unmarked) = 10
+header_number (Err Cut) = 11
+header_number (Err (Unknown kind body)) = 12
 
 -- Whether the front of an input shows its record: the header is there, and its body too, unless the mark or the length refuses it.
 unfoldable pub shows_record : List ℕ → Bool

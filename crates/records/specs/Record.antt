@@ -1,12 +1,13 @@
 -- Records (01, "Records on standard input"): what the record at the front of what is left gives. Rests on Header, the calls over
 -- bodies and the lines of `lines`.
-use Rattle.std.specs.Prelude.{Bool, true, false, List, [], ℕ, suc, ◌+◌, leb, take, drop}
+use Rattle.std.specs.Prelude.{Bool, true, false, List, [], ℕ, suc, ◌+◌, leb, take, drop, Result, Ok, Err}
 use Rattle.kindi.specs.Answers.{Answer, refused}
 use Rattle.kindi.specs.Calls.{number, output}
 use Rattle.lines.specs.Line.{kind_field, line}
 use Rattle.record_calls.specs.Bodies.{record_answer}
 use Rattle.records.specs.declared.header.Header.{Header}
-use Rattle.records.specs.declared.header.Header.TheVariants.{Whole, End, Short, Unmarked, Cut, Unknown}
+use Rattle.records.specs.declared.header.Unread.{Unread}
+use Rattle.records.specs.declared.header.Unread.TheVariants.{End, Short, Unmarked, Cut, Unknown}
 use Rattle.records.specs.Header.{header_length, header_number, read_header}
 
 -- What the front of what is left gives: the end of the input; a refusal with no kind, after which reading ends; or the answer
@@ -17,13 +18,13 @@ pub data Step : Type 0 where
   answers : ℕ → Answer (List ℕ) → ℕ → Step
 
 -- After 10 or 11 reading ends; after others it goes on behind the body.
-unfoldable pub step_by : List ℕ → Header → Step
-step_by rest (Whole kind set body) = answers kind (record_answer kind set (take body (drop header_length rest))) (header_length + body)
-step_by rest End = finished
-step_by rest Short = stopped (header_number Short)
-step_by rest Unmarked = stopped (header_number Unmarked)
-step_by rest Cut = stopped (header_number Cut)
-step_by rest (Unknown kind body) = answers kind (refused (header_number (Unknown kind body))) (header_length + body)
+unfoldable pub step_by : List ℕ → Result Header Unread → Step
+step_by rest (Ok h) = answers h.kind (record_answer h.kind h.set (take h.body (drop header_length rest))) (header_length + h.body)
+step_by rest (Err End) = finished
+step_by rest (Err Short) = stopped (header_number (Err Short))
+step_by rest (Err Unmarked) = stopped (header_number (Err Unmarked))
+step_by rest (Err Cut) = stopped (header_number (Err Cut))
+step_by rest (Err (Unknown kind body)) = answers kind (refused (header_number (Err (Unknown kind body)))) (header_length + body)
 
 unfoldable pub step : List ℕ → Step
 step rest = step_by rest (read_header rest)

@@ -1,10 +1,10 @@
 -- What a step asks and leaves. A primed name is a buffer at exit. Rests on Record, Outputs and the struct `Stepped` of src/.
-use Rattle.std.specs.Prelude.{◌≡◌, List, ℕ, suc, ◌+◌, ◌*◌, ◌≤◌, ◌<◌, length, take, drop}
+use Rattle.std.specs.Prelude.{◌≡◌, List, ℕ, suc, ◌+◌, ◌*◌, ◌≤◌, ◌<◌, length, take, drop, Result, Ok, Err}
 use Rattle.lines.specs.Line.{Written}
 use Rattle.record_calls.specs.Bodies.{record_parts}
 use Rattle.record_calls.specs.Outputs.{first_most, second_most, Room, first_after, second_after, record_work}
 use Rattle.records.specs.declared.header.Header.{Header}
-use Rattle.records.specs.declared.header.Header.TheVariants.{Whole, End, Short, Unmarked, Cut, Unknown}
+use Rattle.records.specs.declared.header.Unread.{Unread}
 use Rattle.records.specs.declared.step.Stepped.{Stepped}
 use Rattle.records.specs.Header.{header_length, read_header}
 use Rattle.records.specs.Record.{Step, step, most_records, step_line, done_after, consumed, reading_ends}
@@ -29,13 +29,9 @@ pub record LineExit (done : ℕ) (s : Step) (out : List ℕ) (at : ℕ) (r : Ste
 
 -- A buffer lent for the call, at exit: what the call of a whole header leaves of it, by kind, set and body; a header that is not
 -- whole calls nothing, and it is as it was.
-unfoldable pub buffer_by : (ℕ → ℕ → List ℕ → List ℕ → List ℕ) → List ℕ → List ℕ → Header → List ℕ
-buffer_by after rest entry (Whole kind set body) = after kind set (take body (drop header_length rest)) entry
-buffer_by after rest entry End = entry
-buffer_by after rest entry Short = entry
-buffer_by after rest entry Unmarked = entry
-buffer_by after rest entry Cut = entry
-buffer_by after rest entry (Unknown kind body) = entry
+unfoldable pub buffer_by : (ℕ → ℕ → List ℕ → List ℕ → List ℕ) → List ℕ → List ℕ → Result Header Unread → List ℕ
+buffer_by after rest entry (Ok h) = after h.kind h.set (take h.body (drop header_length rest)) entry
+buffer_by after rest entry (Err unread) = entry
 
 -- The three of them.
 unfoldable pub step_first : List ℕ → List ℕ → List ℕ

@@ -1,12 +1,12 @@
 // One step (01, "Records on standard input"): the record at the front of a window of what is left of the input is answered, and its
 // line is written.
-ghost use Rattle.std.specs.Prelude.{◌≡◌, false, [], ◌+◌, ◌≤◌, ◌<◌, length};
-ghost use Rattle.records.specs.Header.{is_whole};
+ghost use Rattle.std.specs.Prelude.{◌≡◌, true, [], ◌+◌, ◌≤◌, ◌<◌, leb, length, Err};
 ghost use Rattle.records.specs.Record.{stopped, step_by};
 ghost use Rattle.records.specs.Steps.{StepRoom, LineExit, StepExit};
 
 use crate::header;
-use crate::header::Header;
+use crate::header::Unread;
+use lines::Line;
 
 // The most records of an input.
 pub const MOST_RECORDS: usize = 65535;
@@ -24,16 +24,29 @@ pub struct Stepped {
     pub ended: bool,
 }
 
-impl Stepped {
-    fn new(done: usize, at: usize, consumed: usize, ended: bool) -> Self
-        ensures { result ≡ record { done = done; at = at; consumed = consumed; ended = ended } }
-    {
-        Self {
-            done: done,
-            at: at,
-            consumed: consumed,
-            ended: ended,
-        }
+// Nothing more is read.
+fn over(done: usize, at: usize) -> Stepped
+    ensures { result ≡ record { done = done; at = at; consumed = 0; ended = true } }
+{
+    Stepped {
+        done,
+        at,
+        consumed: 0,
+        ended: true,
+    }
+}
+
+// After a record that is answered reading goes on behind it, up to the last that is read.
+fn answered(done: usize, at: usize, consumed: usize) -> Stepped
+    requires { done < 65535 }
+    ensures { result ≡ record { done = done + 1; at = at; consumed = consumed; ended = leb 65535 (done + 1) } }
+{
+    let done = done + 1;
+    Stepped {
+        done,
+        at,
+        consumed,
+        ended: MOST_RECORDS <= done,
     }
 }
 
@@ -42,25 +55,34 @@ fn stop(done: usize, status: u32, at: usize, out: &mut [u8]) -> Stepped
     requires { (done < 65535) × (at + 86 ≤ length out.old) }
     ensures { LineExit done (stopped status) out.old at result out.new }
 {
-    let next = lines::put_refusal(done + 1, false, 0, status, at, out);
-    Stepped::new(done + 1, next, 0, true)
+    let done = done + 1;
+    let line = Line {
+        number: done,
+        kind: None,
+        status,
+    };
+    let at = line.put_refusal(at, out);
+    over(done, at)
 }
 
-// A header that is not whole: its refusal is printed; of the end of the input nothing is.
-fn refuse(done: usize, header: Header, at: usize, out: &mut [u8]) -> Stepped
-    requires { (done < 65535) × (at + 86 ≤ length out.old) × (is_whole header ≡ false) }
-    ensures { LineExit done (step_by [] header) out.old at result out.new }
+// No header is read: its refusal is printed; of the end of the input nothing is.
+fn refuse(done: usize, unread: Unread, at: usize, out: &mut [u8]) -> Stepped
+    requires { (done < 65535) × (at + 86 ≤ length out.old) }
+    ensures { LineExit done (step_by [] (Err unread)) out.old at result out.new }
 {
-    match header {
-        Header::Short => stop(done, 11, at, out),
-        Header::Unmarked => stop(done, 10, at, out),
-        Header::Cut => stop(done, 11, at, out),
-        Header::Unknown(kind, body) => {
-            let next = lines::put_refusal(done + 1, true, kind, 12, at, out);
-            Stepped::new(done + 1, next, 6 + body as usize, MOST_RECORDS <= done + 1)
+    let status = unread.number();
+    match unread {
+        Unread::End => over(done, at),
+        Unread::Short | Unread::Unmarked | Unread::Cut => stop(done, status, at, out),
+        Unread::Unknown { kind, body } => {
+            let line = Line {
+                number: done + 1,
+                kind: Some(kind),
+                status,
+            };
+            let at = line.put_refusal(at, out);
+            answered(done, at, 6 + usize::from(body))
         }
-        Header::End => Stepped::new(done, at, 0, true),
-        Header::Whole(_, _, _) => Stepped::new(done, at, 0, true),
     }
 }
 
@@ -78,23 +100,32 @@ pub fn step(
     ensures { StepExit done rest.now out.old at first.old second.old work.old
         result out.new first.new second.new work.new }
 {
-    let header = header::read_header(rest);
-    let Header::Whole(kind, set, body) = header else {
-        return refuse(done, header, at, out);
+    let read = header::read_header(rest);
+    let Ok(header) = read else {
+        return refuse(done, read.unwrap_err(), at, out);
     };
-    let end = 6 + body as usize;
-    let outcome = record_calls::answer(kind, set as u32, &rest[6..end], first, second, work);
-    let a = outcome.first;
-    let b = outcome.second;
-    let next = lines::put_line(
-        done + 1,
-        true,
-        kind,
-        outcome.status,
-        &first[..a],
-        &second[..b],
-        at,
-        out,
-    );
-    Stepped::new(done + 1, next, end, MOST_RECORDS <= done + 1)
+    let end = 6 + usize::from(header.body);
+    let set = u32::from(header.set);
+    let number = done + 1;
+    let kind = Some(header.kind);
+    match record_calls::answer(header.kind, set, &rest[6..end], first, second, work) {
+        Ok(output) => {
+            let line = Line {
+                number,
+                kind,
+                status: 0,
+            };
+            let at = line.put(&first[..output.first], &second[..output.second], at, out);
+            answered(done, at, end)
+        }
+        Err(refusal) => {
+            let line = Line {
+                number,
+                kind,
+                status: u32::from(refusal),
+            };
+            let at = line.put_refusal(at, out);
+            answered(done, at, end)
+        }
+    }
 }

@@ -5,6 +5,7 @@ ghost use Rattle.records.specs.Header.{shows_record};
 use crate::header;
 
 // Whether a window shows its record, so that no more of the input is needed for a step.
+#[tactic(auto, unfolding(crate::specs::Header::shows_record))]
 pub fn shows_record(window: &[u8]) -> bool
     ensures { result ≡ shows_record window.now }
 {
@@ -12,14 +13,8 @@ pub fn shows_record(window: &[u8]) -> bool
     if left < 6 {
         return false;
     }
-    if !header::is_marked(window) {
-        return true;
-    }
     let body = header::body_length(window);
-    if 8192 < body {
-        return true;
-    }
-    6 + body as usize <= left
+    !header::is_marked(window) || 8192 < body || 6 + usize::from(body) <= left
 }
 
 // Moves the part from `from` to `to` to the front of the buffer; behind it the buffer stays as it was.
@@ -27,10 +22,5 @@ pub fn to_front(buffer: &mut [u8], from: usize, to: usize)
     requires { (from ≤ to) × (to ≤ length buffer.old) }
     ensures { buffer.new ≡ take (to - from) (drop from buffer.old) ++ drop (to - from) buffer.old }
 {
-    let left = to - from;
-    let mut i = 0;
-    while i < left {
-        buffer[i] = buffer[from + i];
-        i += 1;
-    }
+    buffer.copy_within(from..to, 0);
 }

@@ -2,7 +2,6 @@
 use mathlib.Core.Path.{◌≡◌, refl, sym, ap, ◌∙◌}
 use mathlib.Core.List.{List, ◌++◌}
 use Prim.Native.Nat.{ℕ, ◌+◌, ◌-◌, ◌*◌, ◌%◌, ◌≤◌, ◌<◌, zero-le, suc-le-suc}
-use native.Mathlib.Nat.{mul-le-mul}
 use native.Mathlib.Numerals.{towards_suc}
 use native.Mathlib.Omega.{arith}
 use lib.IntN.{ℤ, pos, neg_ℤ, ◌+ℤ◌, ◌*ℤ◌, +ℤ_assoc, +ℤ_idr}
@@ -80,13 +79,6 @@ pub rows_four : (n : ℕ) (f a b : Poly) (i k : ℕ) → rows n f a b (i + 4) k 
     +ℤ a (i + 3) *ℤ shifted n b (i + 3) k
 unfolding rows sum
 rows_four n f a b i k = simp (towards_suc, +ℤ_assoc)
-
--- Two numbers of 16 bits.
-pub word_product : {a b : ℕ} → a < 65536 → b < 65536 → a * b ≤ 65535 * 65535
-word_product {a} {b} ha hb =
-    let la : a ≤ 65535 = omega arith in
-    let lb : b ≤ 65535 = omega arith in
-    mul-le-mul la lb
 
 -- A term more.
 pub term_more : {acc r : ℕ} (a : ℕ) (x : ℤ) {y : ℤ} → acc ≡ residue 65536 x → Cong 65536 (pos r) y

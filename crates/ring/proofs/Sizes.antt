@@ -5,11 +5,11 @@ use mathlib.Core.Bool.{Bool, true, false, ◌&&◌}
 use mathlib.Core.List.{List, [], ◌∷◌, ◌++◌}
 use Prim.Native.Nat.{ℕ, zero, suc, ◌+◌, ◌*◌, ◌^◌, ◌≤◌, ◌<◌, max, zero-le, suc-le-suc}
 use native.Mathlib.Nat.{zero-add, lt_of_le_of_lt, le_trans, le_refl, not-suc-le-zero, le_of_suc-le-suc, mul-le-mul, mul-le-mul_right}
-use native.Mathlib.Nat.{le-add_left, add_assoc, max-zero, le-max_left, le-max_right, max-le}
+use native.Mathlib.Nat.{le-add_left, max-zero, le-max_left, le-max_right, max-le}
 use native.Mathlib.Omega.{arith}
 use borrow.Author.Tests.{ltb-true, lt-ltb, le-ltb}
 use lib.Dec.{T, ltb}
-use lib.IntN.{ℤ, pos, negsuc, neg_ℤ, nat_abs, ◌+ℤ◌, ◌-ℤ◌, ◌*ℤ◌, +ℤ_one, +ℤ_comm, +ℤ_assoc, +ℤ_idl, neg_ℤ-+ℤ, neg_ℤ-neg_ℤ}
+use lib.IntN.{ℤ, pos, negsuc, neg_ℤ, nat_abs, ◌+ℤ◌, ◌-ℤ◌, ◌*ℤ◌, +ℤ_one, +ℤ_comm, neg_ℤ-+ℤ, neg_ℤ-neg_ℤ}
 use lib.ListN.{length, get_or, take, replicate}
 use lib.Seq.{take-suc}
 use lib.Signed.{mag, lt_z, non_neg}
@@ -19,7 +19,7 @@ use mir.ValLaws.{to_z-of_z}
 use Rattle.keccak.proofs.Entries.{tabulate_at, length-tabulate}
 use Rattle.ring.proofs.Ring.{sides}
 use Rattle.ring.proofs.Integers.{mag_le, nat_abs_mul, nat_abs_neg, pos-sub}
-use Rattle.ring.proofs.Sums.{nat_abs_sum, sum_ext, sum_split}
+use Rattle.ring.proofs.Sums.{nat_abs_sum}
 use Rattle.ring.specs.Poly.{sum, of_ints}
 use Rattle.bits.specs.Bits.{Below}
 use Rattle.ring.specs.Coefficients.{centred_integers}
@@ -148,13 +148,7 @@ dot_fits a b j n h k =
 term_size : (a b : List ℤ) (i : ℕ) → nat_abs (terms a b i) ≤ largest a * largest b
 term_size a b i = rw (nat_abs_mul (of_ints a i) (of_ints b i)) (mul-le-mul (le-largest a i) (le-largest b i))
 
--- Two terms fit a word, and so do up to m from place i on.
-pub two_fit : (a b : List ℤ) (i m j k : ℕ) → Terms a b i m → 2 ≤ m → nat_abs (terms a b j) + nat_abs (terms a b k) < 2 ^ 31
-two_fit a b i m j k t h =
-    let L : ℕ = largest a * largest b in
-    let most : 2 * L ≤ length a * L = mul-le-mul_right L (le_trans h (le_trans (le-add_left m i) t.there)) in
-    omega (arith, term_size a b j, term_size a b k, most, t.small)
-
+-- Up to m terms from place i on fit a word.
 pub terms_fit : (a b : List ℤ) (i m k : ℕ) → Terms a b i m → k ≤ m → SFits w32 (sum k (λ j. terms a b (i + j)))
 terms_fit a b i m k t h =
     let L : ℕ = largest a * largest b in
@@ -170,17 +164,6 @@ word_sum {r = r} {s = s} fr fs er es = ap₂ ◌+ℤ◌ (to_z-of_z w32 r fr ∙ 
 pub term_read : (a b : List ℤ) (i : ℕ) → SFits w16 (of_ints a i) → SFits w16 (of_ints b i)
     → to_z w16 (of_z w16 (of_ints a i)) *ℤ to_z w16 (of_z w16 (of_ints b i)) ≡ terms a b i
 term_read a b i fa fb = ap₂ ◌*ℤ◌ (to_z-of_z w16 (of_ints a i) fa) (to_z-of_z w16 (of_ints b i) fb)
-
--- Pairs of terms first.
-pub four_terms : (g : ℕ → ℤ) → (g 0 +ℤ g 1) +ℤ (g 2 +ℤ g 3) ≡ sum 4 g
-unfolding sum
-four_terms g = simp (+ℤ_assoc, +ℤ_idl)
-
--- m terms, then m more.
-pub terms_twice : (m : ℕ) (f : ℕ → ℤ) (i : ℕ) → sum m (λ j. f (i + j)) +ℤ sum m (λ j. f (i + m + j)) ≡ sum (m + m) (λ j. f (i + j))
-terms_twice m f i =
-    ap (λ (x : ℤ). sum m (λ j. f (i + j)) +ℤ x) (sum_ext m (λ j. f (i + m + j)) (λ j. f (i + (m + j))) (λ j _. ap f (add_assoc i m j)))
-    ∙ sym (sum_split m m (λ j. f (i + j)))
 
 -- ---- intervals
 

@@ -1,4 +1,3 @@
 -- The laws that the proofs of `ring_calls` share.
-pub mod Outcomes
 pub mod From
 pub mod Strings

@@ -1,12 +1,7 @@
 -- What the call that reads from any bit of a string on leaves. Rests on `Outcome` and on the reader's definitions.
-use Rattle.std.specs.Prelude.{List, ℕ, ◌≡◌, ◌+◌, ◌*◌, ◌/◌, ◌%◌, ◌≤◌, ◌<◌, length}
+use Rattle.std.specs.Prelude.{List, ℕ, ◌+◌, ◌*◌, ◌/◌, ◌%◌, ◌≤◌, ◌<◌, length}
 use Rattle.packing.specs.Reading.{unpack_from}
 use Rattle.ring_calls.specs.Outcome.{Outcome}
-
--- `Outcome` of a number: where the arguments fit, 0 and the number that is wanted; else 1 and the number that was there.
-pub record NumberOutcome (Fit : Type 0) (status : ℕ) (exit entry wanted : ℕ) : Type 0 where
-  pub done : Fit → (status ≡ 0) × (exit ≡ wanted)
-  pub refused : (Fit → ⊥) → (status ≡ 1) × (exit ≡ entry)
 
 -- A string of m bytes has n coefficients of w bits from this bit of this byte on.
 pub record Reachable (w byte bit n m : ℕ) : Type 0 where
@@ -20,6 +15,6 @@ pub record UnpackedFrom (w byte bit : ℕ) (src : List ℕ) (status : ℕ) (entr
   pub coefficients :
       Outcome (Reachable w byte bit (length entry) (length src)) status exit entry (unpack_from (8 * byte + bit) w (length entry) src)
   pub byte_after :
-      NumberOutcome (Reachable w byte bit (length entry) (length src)) status byte₁ byte₀ ((8 * byte + bit + w * length entry) / 8)
+      Outcome (Reachable w byte bit (length entry) (length src)) status byte₁ byte₀ ((8 * byte + bit + w * length entry) / 8)
   pub bit_after :
-      NumberOutcome (Reachable w byte bit (length entry) (length src)) status bit₁ bit₀ ((8 * byte + bit + w * length entry) % 8)
+      Outcome (Reachable w byte bit (length entry) (length src)) status bit₁ bit₀ ((8 * byte + bit + w * length entry) % 8)

@@ -5,148 +5,171 @@
 // over 512, ends the run.
 #![tactic(auto)]
 
-ghost use Rattle.std.specs.Prelude.{◌≡◌, ◌+◌, ◌*◌, ◌<◌, ◌≤◌, length, replicate, pos};
+ghost use Rattle.std.specs.Prelude.{◌≡◌, ◌+◌, ◌*◌, ◌<◌, ◌≤◌, length};
 ghost use Rattle.bits.specs.Bits.{bytes_for};
 ghost use Rattle.ring.specs.Integers.{largest};
 
+use std::io;
 use std::io::{Read, Write};
 
-fn coefficients() -> [u16; 512]
-    ensures { 512 ≡ length result }
-{
-    [0; 512]
+// The run ends: the input is at its end or has no case there, or a write failed.
+#[derive(Clone, Copy)]
+struct Stop;
+
+impl From<io::Error> for Stop {
+    fn from(_: io::Error) -> Stop {
+        Stop
+    }
 }
 
-fn small_integers() -> [i16; 512]
-    ensures { 512 ≡ length result }
-{
-    [0; 512]
+// What a case asks for.
+#[derive(Clone, Copy)]
+enum Kind {
+    Pack,
+    Unpack,
+    Product,
+    SignedProduct,
+    Sum,
 }
 
-fn integers() -> [i32; 512]
-    ensures { result ≡ replicate 512 (pos 0) }
-{
-    [0; 512]
+impl TryFrom<u8> for Kind {
+    type Error = Stop;
+
+    fn try_from(kind: u8) -> Result<Kind, Stop> {
+        match kind {
+            1 => Ok(Kind::Pack),
+            2 => Ok(Kind::Unpack),
+            3 => Ok(Kind::Product),
+            4 => Ok(Kind::SignedProduct),
+            5 => Ok(Kind::Sum),
+            _ => Err(Stop),
+        }
+    }
+}
+
+// The head of a case.
+#[derive(Clone, Copy)]
+struct Head {
+    kind: Kind,
+    w: u32,
+    n: usize,
+    p: u16,
+    bound: u16,
+    ghost narrow: { w ≤ 16 },
+    ghost short: { n ≤ 512 },
+}
+
+fn read_head<R: Read>(reader: &mut R) -> Result<Head, Stop> {
+    let mut bytes = [0u8; 8];
+    reader.read_exact(&mut bytes)?;
+    let kind = Kind::try_from(bytes[0])?;
+    let w = u32::from(bytes[1]);
+    let n = usize::from(u16::from_le_bytes([bytes[2], bytes[3]]));
+    let p = u16::from_le_bytes([bytes[4], bytes[5]]);
+    let bound = u16::from_le_bytes([bytes[6], bytes[7]]);
+    if 16 < w || 512 < n {
+        return Err(Stop);
+    }
+    Ok(Head {
+        kind,
+        w,
+        n,
+        p,
+        bound,
+    })
 }
 
 // Writes an answer as a line.
-fn write_line<W: Write>(writer: &mut W, answer: &[u8]) -> bool {
-    let mut line = [0u8; 65536];
-    if 32767 < answer.len() {
-        return false;
-    }
+fn write_line<W: Write>(writer: &mut W, answer: &[u8]) -> Result<(), Stop>
+    requires { length answer.now ≤ 2053 }
+{
+    let mut line = [0u8; 4107];
     let m = 2 * answer.len();
     hex_digits::spell(answer, &mut line[..m]);
-    line[m] = 10;
-    writer.write_all(&line[..m + 1]).is_ok()
+    line[m] = b'\n';
+    writer.write_all(&line[..m + 1])?;
+    Ok(())
 }
 
-fn write_list<W: Write>(writer: &mut W, xs: &[u16]) -> bool {
-    let mut answer = [0u8; 4096];
-    if 512 < xs.len() {
-        return false;
-    }
+fn write_list<W: Write>(writer: &mut W, xs: &[u16]) -> Result<(), Stop>
+    requires { length xs.now ≤ 512 }
+{
+    let mut answer = [0u8; 1024];
     let m = 2 * xs.len();
     bits::store(xs, &mut answer[..m]);
     write_line(writer, &answer[..m])
 }
 
 // Reads the next list of the case, as long as xs.
-fn read_list<R: Read>(reader: &mut R, xs: &mut [u16]) -> bool {
-    let mut body = [0u8; 4096];
-    if 512 < xs.len() {
-        return false;
-    }
+fn read_list<R: Read>(reader: &mut R, xs: &mut [u16]) -> Result<(), Stop>
+    requires { length xs.old ≤ 512 }
+{
+    let mut body = [0u8; 1024];
     let m = 2 * xs.len();
-    if reader.read_exact(&mut body[..m]).is_err() {
-        return false;
-    }
+    reader.read_exact(&mut body[..m])?;
     bits::load(&body[..m], xs);
-    true
+    Ok(())
+}
+
+// The bytes that n coefficients of w bits fill.
+fn bytes_for(w: u32, n: usize) -> usize
+    requires { (w ≤ 16) × (n ≤ 512) }
+    ensures { (result ≡ bytes_for (w * n)) × (result ≤ 1024) }
+{
+    (w as usize * n).div_ceil(8)
 }
 
 // A list, packed.
-fn pack<R: Read, W: Write>(
-    reader: &mut R,
-    writer: &mut W,
-    w: u32,
-    xs: &mut [u16],
-    bytes: &mut [u8],
-) -> bool
-    requires { (w ≤ 16) × (length bytes.old ≡ bytes_for (w * length xs.old)) }
-{
-    if !read_list(reader, xs) {
-        return false;
-    }
-    packing::pack(w, xs, bytes);
+fn pack<R: Read, W: Write>(reader: &mut R, writer: &mut W, head: Head) -> Result<(), Stop> {
+    let mut xs = [0u16; 512];
+    let mut bytes = [0u8; 1024];
+    let xs = &mut xs[..head.n];
+    let bytes = &mut bytes[..bytes_for(head.w, head.n)];
+    read_list(reader, xs)?;
+    packing::pack(head.w, xs, bytes);
     write_line(writer, bytes)
 }
 
 // The list that bytes hold.
-fn unpack<R: Read, W: Write>(
-    reader: &mut R,
-    writer: &mut W,
-    w: u32,
-    xs: &mut [u16],
-    bytes: &mut [u8],
-) -> bool
-    requires { (w ≤ 16) × (length bytes.old ≡ bytes_for (w * length xs.old)) }
-{
-    if reader.read_exact(bytes).is_err() {
-        return false;
-    }
-    packing::unpack(w, bytes, xs);
+fn unpack<R: Read, W: Write>(reader: &mut R, writer: &mut W, head: Head) -> Result<(), Stop> {
+    let mut xs = [0u16; 512];
+    let mut bytes = [0u8; 1024];
+    let xs = &mut xs[..head.n];
+    let bytes = &mut bytes[..bytes_for(head.w, head.n)];
+    reader.read_exact(bytes)?;
+    packing::unpack(head.w, bytes, xs);
     write_list(writer, xs)
 }
 
 // The product of a list and one of values that are centred by p, added to a list.
-fn product<R: Read, W: Write>(
-    reader: &mut R,
-    writer: &mut W,
-    w: u32,
-    p: u16,
-    acc: &mut [u16],
-    a: &mut [u16],
-    v: &mut [u16],
-) -> bool
-    requires { (w ≤ 16) × (length a.old ≡ length acc.old) × (length v.old ≡ length acc.old) × (length acc.old ≤ 512) }
-{
-    if acc.len() % 4 != 0 {
-        return false;
+fn product<R: Read, W: Write>(reader: &mut R, writer: &mut W, head: Head) -> Result<(), Stop> {
+    let n = head.n;
+    if n % 4 != 0 {
+        return Err(Stop);
     }
-    if !read_list(reader, acc) {
-        return false;
-    }
-    if !read_list(reader, a) {
-        return false;
-    }
-    if !read_list(reader, v) {
-        return false;
-    }
-    ring::poly::centre(v, p);
+    let mut acc = [0u16; 512];
+    let mut a = [0u16; 512];
+    let mut v = [0u16; 512];
+    let (acc, a, v) = (&mut acc[..n], &mut a[..n], &mut v[..n]);
+    read_list(reader, acc)?;
+    read_list(reader, a)?;
+    read_list(reader, v)?;
+    ring::poly::centre(v, head.p);
     ring::poly::multiply_add(acc, a, v);
-    bits::reduce(acc, w);
+    bits::reduce(acc, head.w);
     write_list(writer, acc)
 }
 
-// A number less each value of the sum of two lists.
-fn sum<R: Read, W: Write>(
-    reader: &mut R,
-    writer: &mut W,
-    c: u16,
-    acc: &mut [u16],
-    next: &mut [u16],
-) -> bool
-    requires { length next.old ≡ length acc.old }
-{
-    if !read_list(reader, acc) {
-        return false;
-    }
-    if !read_list(reader, next) {
-        return false;
-    }
+// p less each value of the sum of two lists.
+fn sum<R: Read, W: Write>(reader: &mut R, writer: &mut W, head: Head) -> Result<(), Stop> {
+    let n = head.n;
+    let mut acc = [0u16; 512];
+    let mut next = [0u16; 512];
+    let (acc, next) = (&mut acc[..n], &mut next[..n]);
+    read_list(reader, acc)?;
+    read_list(reader, next)?;
     ring::poly::add(acc, next);
-    ring::poly::subtract_from(c, acc);
+    ring::poly::subtract_from(head.p, acc);
     write_list(writer, acc)
 }
 
@@ -160,233 +183,72 @@ fn centre(w: u32, p: u16, values: &mut [u16], xs: &mut [i16])
     signed::centre(values, p, xs);
 }
 
-// The number that has the bits of entry i in two's complement.
-fn bits_of(xs: &[i32], i: usize) -> u32
-    requires { i < length xs.now }
+// Integers in two's complement with the low byte first, the largest of their sizes, and whether all lie strictly between −bound and
+// bound, as a byte.
+fn put_answer(xs: &[i32], bound: u16, answer: &mut [u8])
+    requires { length answer.old ≡ 4 * length xs.now + 5 }
 {
-    let size = signed::largest(&xs[i..i + 1]);
-    if xs[i] < 0 {
-        std::num::wrapping_sub_u32(0, size)
-    } else {
-        size
+    let high = i32::from(bound);
+    let (words, rest) = answer.split_at_mut(4 * xs.len());
+    for (x, word) in xs.iter().zip(words.chunks_exact_mut(4)) {
+        word.copy_from_slice(&x.to_le_bytes());
     }
+    rest[..4].copy_from_slice(&signed::largest(xs).to_le_bytes());
+    rest[4] = u8::from(signed::all_between(xs, -high, high));
 }
 
-fn put_byte(dst: &mut [u8], at: usize, b: u8)
-    requires { at < length dst.old }
+fn write_integers<W: Write>(writer: &mut W, xs: &[i32], bound: u16) -> Result<(), Stop>
+    requires { length xs.now ≤ 512 }
 {
-    dst[at] = b;
-}
-
-// Four bytes, low byte first.
-fn put_word(dst: &mut [u8], at: usize, v: u32)
-    requires { at + 4 ≤ length dst.old }
-{
-    put_byte(dst, at, (v % 256) as u8);
-    put_byte(dst, at + 1, (v / 256 % 256) as u8);
-    put_byte(dst, at + 2, (v / 65536 % 256) as u8);
-    put_byte(dst, at + 3, (v / 16777216) as u8);
-}
-
-fn put_integers(xs: &[i32], dst: &mut [u8])
-    requires { 4 * length xs.now ≤ length dst.old }
-{
-    let mut i = 0;
-    while i < xs.len() {
-        put_word(dst, 4 * i, bits_of(xs, i));
-        i += 1;
-    }
-}
-
-// Whether all lie strictly between −bound and bound, as a byte.
-fn within(xs: &[i32], bound: u16) -> u8 {
-    let high = bound as i32;
-    if signed::all_between(xs, 0 - high, high) {
-        1
-    } else {
-        0
-    }
-}
-
-// Integers, the largest of their sizes, and whether all are within the bound.
-fn put_answer(xs: &[i32], bound: u16, dst: &mut [u8])
-    requires { 4 * length xs.now + 5 ≤ length dst.old }
-{
-    let m = 4 * xs.len();
-    put_integers(xs, dst);
-    put_word(dst, m, signed::largest(xs));
-    put_byte(dst, m + 4, within(xs, bound));
-}
-
-fn write_integers<W: Write>(writer: &mut W, xs: &[i32], bound: u16) -> bool {
-    let mut answer = [0u8; 4096];
-    if 512 < xs.len() {
-        return false;
-    }
-    put_answer(xs, bound, &mut answer);
-    write_line(writer, &answer[..4 * xs.len() + 5])
+    let mut answer = [0u8; 2053];
+    let m = 4 * xs.len() + 5;
+    put_answer(xs, bound, &mut answer[..m]);
+    write_line(writer, &answer[..m])
 }
 
 // The product of two lists of values that are centred by p.
 fn signed_product<R: Read, W: Write>(
     reader: &mut R,
     writer: &mut W,
-    w: u32,
-    p: u16,
-    bound: u16,
-    values: &mut [u16],
-    acc: &mut [i32],
-    a: &mut [i16],
-    b: &mut [i16],
-) -> bool
-    requires { (length values.old ≡ length acc.old) × (length a.old ≡ length acc.old) × (length b.old ≡ length acc.old) × (length acc.old ≤ 512) × (largest acc.old ≡ 0) }
-{
-    if 10 < w {
-        return false;
+    head: Head,
+) -> Result<(), Stop> {
+    let n = head.n;
+    if 10 < head.w || 1024 < head.p {
+        return Err(Stop);
     }
-    if 1024 < p {
-        return false;
-    }
-    if !read_list(reader, values) {
-        return false;
-    }
-    centre(w, p, values, a);
-    if !read_list(reader, values) {
-        return false;
-    }
-    centre(w, p, values, b);
+    let mut values = [0u16; 512];
+    let mut a = [0i16; 512];
+    let mut b = [0i16; 512];
+    let mut acc = [0i32; 512];
+    let (values, a, b, acc) = (&mut values[..n], &mut a[..n], &mut b[..n], &mut acc[..n]);
+    read_list(reader, values)?;
+    centre(head.w, head.p, values, a);
+    read_list(reader, values)?;
+    centre(head.w, head.p, values, b);
     signed::multiply_add(acc, a, b);
-    write_integers(writer, acc, bound)
-}
-
-// Answers a case of kind 4.
-fn run_signed<R: Read, W: Write>(
-    reader: &mut R,
-    writer: &mut W,
-    w: u32,
-    n: usize,
-    p: u16,
-    bound: u16,
-) -> bool
-    requires { n ≤ 512 }
-{
-    let mut values = coefficients();
-    let mut acc = integers();
-    let mut a = small_integers();
-    let mut b = small_integers();
-    signed_product(
-        reader,
-        writer,
-        w,
-        p,
-        bound,
-        &mut values[..n],
-        &mut acc[..n],
-        &mut a[..n],
-        &mut b[..n],
-    )
-}
-
-// Answers a case of another kind, in lists and bytes that the caller lends.
-fn choose<R: Read, W: Write>(
-    reader: &mut R,
-    writer: &mut W,
-    kind: u8,
-    w: u32,
-    p: u16,
-    xs: &mut [u16],
-    ys: &mut [u16],
-    zs: &mut [u16],
-    bytes: &mut [u8],
-) -> bool
-    requires { (w ≤ 16) × (length ys.old ≡ length xs.old) × (length zs.old ≡ length xs.old) × (length xs.old ≤ 512) × (length bytes.old ≡ bytes_for (w * length xs.old)) }
-{
-    if kind == 1 {
-        return pack(reader, writer, w, xs, bytes);
-    }
-    if kind == 2 {
-        return unpack(reader, writer, w, xs, bytes);
-    }
-    if kind == 3 {
-        return product(reader, writer, w, p, xs, ys, zs);
-    }
-    if kind == 5 {
-        return sum(reader, writer, p, xs, ys);
-    }
-    false
-}
-
-// The bytes that n coefficients of w bits fill.
-fn bytes_for(w: u32, n: usize) -> usize
-    requires { (w ≤ 16) × (n ≤ 512) }
-    ensures { (result ≡ bytes_for (w * n)) × (result ≤ 1024) }
-{
-    (w as usize * n + 7) / 8
-}
-
-fn run<R: Read, W: Write>(
-    reader: &mut R,
-    writer: &mut W,
-    kind: u8,
-    w: u32,
-    n: usize,
-    p: u16,
-) -> bool
-    requires { (w ≤ 16) × (n ≤ 512) }
-{
-    let mut xs = coefficients();
-    let mut ys = coefficients();
-    let mut zs = coefficients();
-    let mut bytes = [0u8; 4096];
-    let m = bytes_for(w, n);
-    choose(
-        reader,
-        writer,
-        kind,
-        w,
-        p,
-        &mut xs[..n],
-        &mut ys[..n],
-        &mut zs[..n],
-        &mut bytes[..m],
-    )
-}
-
-fn wide(b: u8) -> u32 {
-    b as u32
+    write_integers(writer, acc, head.bound)
 }
 
 // Reads a case and answers it.
-fn one_case<R: Read, W: Write>(reader: &mut R, writer: &mut W) -> bool {
-    let mut head = [0u8; 8];
-    if reader.read_exact(&mut head).is_err() {
-        return false;
+fn one_case<R: Read, W: Write>(reader: &mut R, writer: &mut W) -> Result<(), Stop> {
+    let head = read_head(reader)?;
+    match head.kind {
+        Kind::Pack => pack(reader, writer, head),
+        Kind::Unpack => unpack(reader, writer, head),
+        Kind::Product => product(reader, writer, head),
+        Kind::SignedProduct => signed_product(reader, writer, head),
+        Kind::Sum => sum(reader, writer, head),
     }
-    let w = wide(head[1]);
-    let n = hex_digits::pair(head[2], head[3]) as usize;
-    let p = hex_digits::pair(head[4], head[5]);
-    if 16 < w {
-        return false;
-    }
-    if 512 < n {
-        return false;
-    }
-    if head[0] == 4 {
-        return run_signed(reader, writer, w, n, p, hex_digits::pair(head[6], head[7]));
-    }
-    run(reader, writer, head[0], w, n, p)
 }
 
-// A proved loop has to end, and nothing says that the input does: it counts down from a number
-// that no run uses up.
+// A proved loop has to end, and nothing says that the input does: it has more turns than any run
+// uses up.
 fn main(rt: HostRuntime) {
     let mut reader = rt.stdin();
     let mut writer = rt.stdout();
-    let mut turns = u64::MAX;
-    while turns > 0 {
-        if !one_case(&mut reader, &mut writer) {
+    for _ in 0..u64::MAX {
+        if one_case(&mut reader, &mut writer).is_err() {
             return;
         }
-        turns -= 1;
     }
 }

@@ -1,5 +1,5 @@
 // The C interface of the KINDI library. Each call answers by its arguments alone and asks nothing of
-// them: no call has a `requires`.
+// them: no call has a `requires`. Here a result becomes the status number that C is returned.
 #![tactic(auto)]
 
 ghost use Rattle.calls.specs.Exits.{ShakeExit};
@@ -8,12 +8,14 @@ ghost use Rattle.recipients.specs.Exits.{EncryptEachExit};
 ghost use Rattle.decryption_calls.specs.Exits.{DecryptExit, DecapsExit};
 ghost use Rattle.noise_calls.specs.Exits.{NoiseExit, ChooseExit};
 
+use calls::refusal::status;
+
 // Fills output with the bytes of SHAKE128 of input from a place on.
 #[unsafe(no_mangle)]
 pub extern "C" fn kindi_shake128(input: &[u8], place: usize, output: &mut [u8]) -> u32
     ensures { ShakeExit 168 input.now place output.old result output.new }
 {
-    calls::shake::shake128(input, place, output)
+    status(&calls::shake::shake128(input, place, output))
 }
 
 // Fills output with the bytes of SHAKE256 of input from a place on.
@@ -21,7 +23,7 @@ pub extern "C" fn kindi_shake128(input: &[u8], place: usize, output: &mut [u8]) 
 pub extern "C" fn kindi_shake256(input: &[u8], place: usize, output: &mut [u8]) -> u32
     ensures { ShakeExit 136 input.now place output.old result output.new }
 {
-    calls::shake::shake256(input, place, output)
+    status(&calls::shake::shake256(input, place, output))
 }
 
 // Makes a public and a secret key from three seeds.
@@ -38,7 +40,7 @@ pub extern "C" fn kindi_keygen(
     ensures { KeygenExit set mu.now gamma.now z.now
         pk.old sk.old work.old result pk.new sk.new work.new }
 {
-    encryption_calls::keygen::keygen(set, mu, gamma, z, pk, sk, work)
+    status(&encryption_calls::keygen::keygen(set, mu, gamma, z, pk, sk, work))
 }
 
 // Encrypts a message with coins under a public key.
@@ -54,7 +56,7 @@ pub extern "C" fn kindi_encrypt(
     ensures { EncryptExit set pk.now coins.now message.now
         ct.old work.old result ct.new work.new }
 {
-    encryption_calls::encrypt::encrypt(set, pk, coins, message, ct, work)
+    status(&encryption_calls::encrypt::encrypt(set, pk, coins, message, ct, work))
 }
 
 // Encrypts one message to several recipients, each with a public key and coins of its own.
@@ -71,7 +73,7 @@ pub extern "C" fn kindi_encrypt_each(
     ensures { EncryptEachExit set count keys.now list.now message.now
         cts.old work.old result cts.new work.new }
 {
-    recipients::each::encrypt_each(set, count, keys, list, message, cts, work)
+    status(&recipients::each::encrypt_each(set, count, keys, list, message, cts, work))
 }
 
 // Decrypts a ciphertext with a secret key.
@@ -88,7 +90,9 @@ pub extern "C" fn kindi_decrypt(
     ensures { DecryptExit set sk.now ct.now coins.old message.old
         work.old result coins.new message.new message_len.new work.new }
 {
-    decryption_calls::decrypt::decrypt(set, sk, ct, coins, message, message_len, work)
+    let answer = decryption_calls::decrypt::decrypt(set, sk, ct, coins, message, work);
+    *message_len = answer.unwrap_or(0);
+    status(&answer)
 }
 
 // Makes a shared key from coins, and the ciphertext that carries it under a public key.
@@ -104,7 +108,7 @@ pub extern "C" fn kindi_encaps(
     ensures { EncapsExit set pk.now coins.now key.old
         ct.old work.old result key.new ct.new work.new }
 {
-    encryption_calls::encaps::encaps(set, pk, coins, key, ct, work)
+    status(&encryption_calls::encaps::encaps(set, pk, coins, key, ct, work))
 }
 
 // Makes the shared key again that a ciphertext carries.
@@ -119,7 +123,7 @@ pub extern "C" fn kindi_decaps(
     ensures { DecapsExit set sk.now ct.now key.old work.old
         result key.new work.new }
 {
-    decryption_calls::decaps::decaps(set, sk, ct, key, work)
+    status(&decryption_calls::decaps::decaps(set, sk, ct, key, work))
 }
 
 // Tells whether coins and a message are clear under a secret key, and the largest absolute value of their noise.
@@ -136,7 +140,10 @@ pub extern "C" fn kindi_noise(
     ensures { NoiseExit set sk.now coins.now message.now work.old
         result clear.new largest.new work.new }
 {
-    noise_calls::measure::noise(set, sk, coins, message, clear, largest, work)
+    let answer = noise_calls::measure::noise(set, sk, coins, message, work);
+    *clear = answer.map_or(0, |measured| u32::from(measured.clear));
+    *largest = answer.map_or(0, |measured| measured.largest);
+    status(&answer)
 }
 
 // Gives the place of clear coins in a list of 1 to 8.
@@ -152,5 +159,7 @@ pub extern "C" fn kindi_choose(
     ensures { ChooseExit set sk.now message.now list.now work.old
         result place.new work.new }
 {
-    noise_calls::choose::choose(set, sk, message, list, place, work)
+    let answer = noise_calls::choose::choose(set, sk, message, list, work);
+    *place = answer.unwrap_or(0);
+    status(&answer)
 }

@@ -5,48 +5,51 @@
 // 65,536 bytes, ends the run.
 #![tactic(auto)]
 
-ghost use Rattle.std.specs.Prelude.{◌≡◌, ◌+◌, ◌*◌, length};
+ghost use Rattle.std.specs.Prelude.{◌≤◌, ◌<◌};
 
-use std::io::{Read, Write};
+use std::io::{self, Read, Write};
 
-fn run(kind: u8, input: &[u8], place: usize, output: &mut [u8]) -> bool {
-    if kind == 1 {
-        hash::shake_from(168, input, place, output);
-        return true;
-    }
-    if kind == 2 {
-        hash::shake_from(136, input, place, output);
-        return true;
-    }
-    false
+// Why the run ends: the input is cut short or a write failed, the case is of another kind, or it is too long.
+#[derive(Clone, Copy)]
+enum Stop {
+    Io,
+    OtherKind,
+    TooLong,
 }
 
-// Runs a case and writes its line, for which line has just the room.
-fn answer<W: Write>(
-    writer: &mut W,
-    kind: u8,
-    input: &[u8],
-    place: usize,
-    output: &mut [u8],
-    line: &mut [u8],
-) -> bool
-    requires { 2 * length output.old + 1 ≡ length line.old }
-{
-    let ok = run(kind, input, place, output);
-    if !ok {
-        return false;
+impl From<io::Error> for Stop {
+    fn from(_error: io::Error) -> Self {
+        Stop::Io
     }
-    let m = 2 * output.len();
-    hex_digits::spell(output, &mut line[..m]);
-    line[m] = 10;
-    writer.write_all(line).is_ok()
 }
 
-// The number of four bytes, low byte first.
-fn number(a: u8, b: u8, c: u8, d: u8) -> usize {
-    let low = hex_digits::pair(a, b) as usize;
-    let high = hex_digits::pair(c, d) as usize;
-    low + 65536 * high
+#[derive(Clone, Copy)]
+enum Kind {
+    Shake128,
+    Shake256,
+}
+
+impl TryFrom<u8> for Kind {
+    type Error = Stop;
+
+    fn try_from(byte: u8) -> Result<Self, Stop> {
+        match byte {
+            1 => Ok(Kind::Shake128),
+            2 => Ok(Kind::Shake256),
+            _ => Err(Stop::OtherKind),
+        }
+    }
+}
+
+impl Kind {
+    fn rate(self) -> usize
+        ensures { (0 < result) × (result ≤ 200) }
+    {
+        match self {
+            Kind::Shake128 => 168,
+            Kind::Shake256 => 136,
+        }
+    }
 }
 
 // Reads a case and answers it, in buffers that the caller lends.
@@ -56,50 +59,36 @@ fn one_case<R: Read, W: Write>(
     input: &mut [u8],
     output: &mut [u8],
     line: &mut [u8],
-) -> bool {
-    let mut head = [0u8; 9];
-    if reader.read_exact(&mut head).is_err() {
-        return false;
+) -> Result<(), Stop> {
+    let mut head = [0; 9];
+    reader.read_exact(&mut head)?;
+    let [kind, n0, n1, m0, m1, p0, p1, p2, p3] = head;
+    let n = usize::from(u16::from_le_bytes([n0, n1]));
+    let m = usize::from(u16::from_le_bytes([m0, m1]));
+    let place = u32::from_le_bytes([p0, p1, p2, p3]) as usize;
+    if input.len() < n || output.len() < m || line.len() < 2 * m + 1 {
+        return Err(Stop::TooLong);
     }
-    let n = hex_digits::pair(head[1], head[2]) as usize;
-    let m = hex_digits::pair(head[3], head[4]) as usize;
-    let place = number(head[5], head[6], head[7], head[8]);
-    let end = 2 * m + 1;
-    if input.len() < n {
-        return false;
-    }
-    if output.len() < m {
-        return false;
-    }
-    if line.len() < end {
-        return false;
-    }
-    if reader.read_exact(&mut input[..n]).is_err() {
-        return false;
-    }
-    answer(
-        writer,
-        head[0],
-        &input[..n],
-        place,
-        &mut output[..m],
-        &mut line[..end],
-    )
+    reader.read_exact(&mut input[..n])?;
+    let rate = Kind::try_from(kind)?.rate();
+    hash::shake_from(rate, &input[..n], place, &mut output[..m]);
+    hex_digits::spell(&output[..m], &mut line[..2 * m]);
+    line[2 * m] = b'\n';
+    writer.write_all(&line[..2 * m + 1])?;
+    Ok(())
 }
 
-// A proved loop has to end, and nothing says that the input does: it counts down from a number
-// that no run uses up.
+// A proved loop has to end, and nothing says that the input does: it counts up to a number that
+// no run reaches.
 fn main(rt: HostRuntime) {
     let mut reader = rt.stdin();
     let mut writer = rt.stdout();
-    let mut input = [0u8; 65536];
-    let mut output = [0u8; 65536];
-    let mut line = [0u8; 65536];
-    let mut turns = u64::MAX;
-    while turns > 0 {
-        if !one_case(&mut reader, &mut writer, &mut input, &mut output, &mut line) {
+    let mut input = [0; 65536];
+    let mut output = [0; 65536];
+    let mut line = [0; 65536];
+    for _ in 0..u64::MAX {
+        if one_case(&mut reader, &mut writer, &mut input, &mut output, &mut line).is_err() {
             return;
         }
-        turns -= 1;
     }
 }

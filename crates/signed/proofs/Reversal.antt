@@ -6,7 +6,9 @@ use native.Mathlib.Nat.{min-eq_left}
 use native.Mathlib.Omega.{arith}
 use lib.IntN.{ℤ, pos, neg_ℤ, nat_abs, ◌+ℤ◌, ◌*ℤ◌}
 use lib.ListN.{length, get_or, take, drop, length-append, length-take, length-drop, get_or-append}
-use lib.Seq.{get_or-append-add, get_or-take, get_or-drop}
+use lib.Seq.{get_or-append-add, get_or-take, get_or-drop, ext_get_or}
+use Rattle.std.proofs.Common.{reverse}
+use Rattle.std.proofs.lemmas.List.{get_or-reverse, length-reverse}
 use Rattle.keccak.proofs.Entries.{tabulate_at, length-tabulate}
 use Rattle.ring.proofs.Ring.{shifted_low, shifted_high, sides, nat_abs_mul_poly}
 use Rattle.ring.proofs.Sizes.{le-largest, largest-le}
@@ -15,6 +17,14 @@ use Rattle.ring.proofs.Integers.{nat_abs_add, nat_abs_neg}
 use Rattle.ring.specs.Integers.{largest}
 use Rattle.ring.specs.Poly.{Poly, sum, shifted, mul, plus, of_ints}
 use Rattle.ring.specs.Terms.{backwards, negated_backwards}
+
+-- A list turned round is its entries from the last one down.
+pub reversed : (xs : List ℤ) → reverse xs ≡ backwards xs
+reversed xs =
+    ext_get_or (pos 0) (reverse xs) (backwards xs) (length-reverse xs ∙ sym (length-tabulate (length xs) (λ i. of_ints xs (length xs - 1 - i))))
+    (λ k h.
+    let inside : k < length xs = rw length-reverse at h in
+    get_or-reverse xs k (pos 0) inside ∙ sym (tabulate_at (length xs) (λ i. of_ints xs (length xs - 1 - i)) k (pos 0) inside))
 
 -- From place n − 1 − k on stands what the coefficients of the other factor meet in coefficient k.
 pub backwards_at : (b : List ℤ) (j k : ℕ) → j < length b → k < length b

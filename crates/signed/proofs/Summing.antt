@@ -3,15 +3,15 @@ use mathlib.Core.Path.{◌≡◌, refl, sym, ap, ap₂, ◌∙◌}
 use mathlib.Core.List.{List, ◌++◌}
 use Prim.Native.Nat.{ℕ, ◌+◌, ◌-◌, ◌*◌, ◌^◌, ◌≤◌, ◌<◌}
 use native.Mathlib.Nat.{le_refl, lt_of_le_of_lt, mul-le-mul, add-zero}
+use native.Mathlib.Numerals.{add-one}
 use native.Mathlib.Omega.{arith}
-use lib.IntN.{ℤ, pos, nat_abs, ◌+ℤ◌, ◌*ℤ◌, +ℤ_idl}
+use lib.IntN.{ℤ, pos, ◌+ℤ◌, ◌*ℤ◌, +ℤ_idl}
 use lib.ListN.{length, get_or, drop, set, length-append, length-drop}
 use mir.Syntax.{w16, w32}
 use mir.Val.{SFits, to_z, of_z}
 use mir.ValLaws.{to_z-of_z}
 use Rattle.bits.proofs.Filling.{Filling, filling_begun, filling_more, filling_at}
-use Rattle.ring.proofs.Integers.{nat_abs_add}
-use Rattle.ring.proofs.Sizes.{dot_fits, fits_abs, word_sum, term_read, terms_fit, four_terms, terms_twice}
+use Rattle.ring.proofs.Sizes.{dot_fits, fits_abs, word_sum, term_read, terms_fit}
 use Rattle.ring.proofs.Sums.{sum_split}
 use Rattle.ring.specs.Integers.{largest}
 use Rattle.ring.specs.Poly.{sum, shifted, mul, plus, of_ints}
@@ -19,36 +19,22 @@ use Rattle.ring.specs.Coefficients.{Summable}
 use Rattle.ring.specs.Terms.{backwards, negated_backwards, terms, Terms}
 use Rattle.signed.proofs.Reversal.{row_at, met, met_long, met-size, met_product, product_bound}
 
--- The sum of two words is the number x where it is that of their values and x fits.
-module _ {r s y z : ℤ} (fr : SFits w32 r) (fs : SFits w32 s) (er : r ≡ y) (es : s ≡ z) {x : ℤ} (sum_is_lem : y +ℤ z ≡ x) (fits : SFits w32 x) where
-  both_is : to_z w32 (of_z w32 r) +ℤ to_z w32 (of_z w32 s) ≡ x
-  both_is = word_sum fr fs er es ∙ sum_is_lem
+-- A number x with k of the terms from place i on, in lists so small that no such sum leaves 32 bits: with the next one, in a word r,
+-- it has k + 1.
+module _ {a b : List ℤ} {i m k : ℕ} {x r : ℤ} (small : Terms a b i m) (in-it : k < m) (has : x ≡ sum k (λ j. terms a b (i + j)))
+    (word : SFits w32 r) (is : r ≡ terms a b (i + k)) where
+  next_term : x +ℤ to_z w32 (of_z w32 r) ≡ sum (k + 1) (λ j. terms a b (i + j))
+  unfolding sum
+  next_term = rw add-one (ap₂ ◌+ℤ◌ has (to_z-of_z w32 r word ∙ is))
 
-  pub both_fits : SFits w32 (to_z w32 (of_z w32 r) +ℤ to_z w32 (of_z w32 s))
-  both_fits = rw both_is fits
+  next_fits : SFits w32 (sum (k + 1) (λ j. terms a b (i + j)))
+  next_fits = terms_fit a b i m (k + 1) small (omega arith)
 
-  pub both_value : to_z w32 (of_z w32 (to_z w32 (of_z w32 r) +ℤ to_z w32 (of_z w32 s))) ≡ x
-  both_value = ap (λ (z : ℤ). to_z w32 (of_z w32 z)) both_is ∙ to_z-of_z w32 x fits
+  pub term_fits : SFits w32 (x +ℤ to_z w32 (of_z w32 r))
+  term_fits = rw next_term next_fits
 
--- Two products that are small together fit.
-pub two_fits : (x y : ℤ) → nat_abs x + nat_abs y < 2 ^ 31 → SFits w32 (x +ℤ y)
-two_fits x y h = fits_abs w32 (x +ℤ y) (lt_of_le_of_lt (nat_abs_add x y) h)
-
--- Four terms in two pairs.
-pub four_pairs : (a b : List ℤ) (i : ℕ)
-    → (terms a b i +ℤ terms a b (i + 1)) +ℤ (terms a b (i + 2) +ℤ terms a b (i + 3)) ≡ sum 4 (λ j. terms a b (i + j))
-four_pairs a b i =
-    ap (λ (x : ℤ). (x +ℤ terms a b (i + 1)) +ℤ (terms a b (i + 2) +ℤ terms a b (i + 3))) (ap (terms a b) (sym (add-zero i)))
-    ∙ four_terms (λ j. terms a b (i + j))
-
--- Words with m terms and with m more make up twice as many.
-module _ (m : ℕ) {a b : List ℤ} {i : ℕ} {r s : ℤ} (both : Terms a b i (m + m)) (fr : SFits w32 r) (fs : SFits w32 s)
-    (er : r ≡ sum m (λ j. terms a b (i + j))) (es : s ≡ sum m (λ j. terms a b (i + m + j))) where
-  pub twice_fits : SFits w32 (to_z w32 (of_z w32 r) +ℤ to_z w32 (of_z w32 s))
-  twice_fits = both_fits fr fs er es (terms_twice m (terms a b) i) (terms_fit a b i (m + m) (m + m) both (le_refl (m + m)))
-
-  pub twice_value : to_z w32 (of_z w32 (to_z w32 (of_z w32 r) +ℤ to_z w32 (of_z w32 s))) ≡ sum (m + m) (λ j. terms a b (i + j))
-  twice_value = both_value fr fs er es (terms_twice m (terms a b) i) (terms_fit a b i (m + m) (m + m) both (le_refl (m + m)))
+  pub term_value : to_z w32 (of_z w32 (x +ℤ to_z w32 (of_z w32 r))) ≡ sum (k + 1) (λ j. terms a b (i + j))
+  term_value = ap (λ (z : ℤ). to_z w32 (of_z w32 z)) next_term ∙ to_z-of_z w32 (sum (k + 1) (λ j. terms a b (i + j))) next_fits
 
 -- A word that has the sum of the products of the first i entries, in lists so small that no such sum leaves 32 bits.
 pub record Summed (a b : List ℤ) (i total : ℕ) : Type 0 where

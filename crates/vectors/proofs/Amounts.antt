@@ -1,7 +1,7 @@
 -- Laws of lengths: how they add up, and that they are small. Assumes nothing.
 use mathlib.Core.Path.{◌≡◌, sym, ap, ◌∙◌}
-use Prim.Native.Nat.{ℕ, zero, suc, ◌+◌, ◌-◌, ◌*◌, ◌/◌, ◌^◌, ◌≤◌, ◌<◌, suc-le-suc, zero-le}
-use native.Mathlib.Nat.{not-suc-le-zero, le_refl, add-sub_cancel, pow-suc, mul-div_cancel, mul-le-mul, mul-le-mul_right, add-mul, one-mul, zero-mul, suc-mul}
+use Prim.Native.Nat.{ℕ, zero, suc, ◌+◌, ◌-◌, ◌*◌, ◌/◌, ◌≤◌, ◌<◌}
+use native.Mathlib.Nat.{not-suc-le-zero, le_refl, add-sub_cancel, mul-le-mul, mul-le-mul_right, add-mul, one-mul, zero-mul, suc-mul}
 use native.Mathlib.Numerals.{add-one}
 use native.Mathlib.Omega.{arith}
 use mathlib.Core.List.{List, ◌++◌}
@@ -10,7 +10,7 @@ use Rattle.keccak.proofs.Parts.{take_rest}
 use Rattle.bits.specs.Bits.{bytes_for}
 use Rattle.product.specs.Dots.{Vectors}
 use Rattle.kindi.specs.declared.Params.{Params}
-use Rattle.kindi.specs.Params.{WellFormed, half, width, length_of}
+use Rattle.kindi.specs.Params.{WellFormed, width, length_of}
 use Rattle.kindi.proofs.Lengths.{length_mono}
 use Rattle.kindi.proofs.Strings.{whole_bytes}
 
@@ -23,10 +23,6 @@ part_bound P W h =
 pub length_bound : (P : Params) → WellFormed P → {m w : ℕ} → m ≤ 64 → w ≤ 16 → length_of P m w ≤ 65536
 unfolding length_of
 length_bound P W h l = mul-le-mul h (part_bound P W l)
-
--- The matrix has at most 64 polynomials.
-pub square : {l : ℕ} → l ≤ 8 → l * l ≤ 64
-square h = mul-le-mul h h
 
 -- Polynomials one after another.
 pub length-add : (P : Params) (a b w : ℕ) → length_of P (a + b) w ≡ length_of P a w + length_of P b w
@@ -74,16 +70,6 @@ vectors_of P W {acc} {f} {s} e a b =
       short = omega (arith, W.short);
       few = W.few;
     }
-
--- g is the power of two below q.
-pub half_power : (P : Params) → WellFormed P → 2 ^ (P.k - 1) ≡ half P
-half_power P W = halves P.k W.quarters
-  where
-    halves : (k : ℕ) → 2 ≤ k → 2 ^ (k - 1) ≡ 2 ^ k / 2
-    halves zero h = absurd (not-suc-le-zero h)
-    halves (suc k) h =
-        let e : suc k - 1 ≡ k = omega arith in
-        ap (λ (m : ℕ). 2 ^ m) e ∙ sym (ap (λ (m : ℕ). m / 2) (pow-suc 2 k) ∙ mul-div_cancel (2 ^ k) (suc-le-suc zero-le))
 
 -- Polynomial a lies within m of them.
 pub within : (P : Params) {a m : ℕ} (w : ℕ) → a < m → length_of P a w + length_of P 1 w ≤ length_of P m w

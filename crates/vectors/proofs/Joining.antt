@@ -25,28 +25,15 @@ rest_long a xs h = rw (take_rest a xs) (simp length-drop (omega arith))
 pub rest_is : (a k : ℕ) (xs : List ℕ) → a + k ≡ length xs → length (take (length xs - a) (drop a xs)) ≡ k
 rest_is a k xs e = ap length (take_rest a xs) ∙ simp length-drop (omega arith)
 
--- A part that has come back as long as it was leaves the slice as long as it was: k entries from a on, all from a on, the first a,
--- and k entries after the first a.
+-- A part that has come back as long as it was leaves the slice as long as it was: k entries from a on, and the first a.
 pub same_long : (a k : ℕ) (ys xs : List ℕ) → a + k ≤ length xs → length ys ≡ length (take (a + k - a) (drop a xs))
     → length (patched a (a + k - a) ys xs) ≡ length xs
 same_long a k ys xs h e =
     let long : a + k - a ≡ k = omega arith in
     length-patched a (a + k - a) ys xs (e ∙ part_length a k xs h ∙ sym long) (omega arith)
 
-pub rest-same : (a : ℕ) (ys xs : List ℕ) → a ≤ length xs → length ys ≡ length (take (length xs - a) (drop a xs))
-    → length (patched a (length xs - a) ys xs) ≡ length xs
-rest-same a ys xs h e =
-    let long : length ys ≡ length xs - a = e ∙ ap length (take_rest a xs) ∙ length-drop a xs in
-    ap length (patched-rest a ys xs) ∙ simp (length-append, length-take, long) (omega arith)
-
 pub first_same : (a : ℕ) (ys xs : List ℕ) → length ys ≡ length (take a xs) → length (ys ++ drop a xs) ≡ length xs
 first_same a ys xs e = simp (length-append, e, length-take, length-drop) (omega arith)
-
-pub next_same : (a k : ℕ) (ys zs xs : List ℕ) → a + k ≤ length xs → length ys ≡ length (take a xs)
-    → length zs ≡ length (take (a + k - a) (drop a (ys ++ drop a xs))) → length (patched a (a + k - a) zs (ys ++ drop a xs)) ≡ length xs
-next_same a k ys zs xs h e l =
-    let first : length (ys ++ drop a xs) ≡ length xs = first_same a ys xs e in
-    same_long a k zs (ys ++ drop a xs) (rw first h) l ∙ first
 
 -- The first a entries and then the rest, or the next k.
 pub then-rest : (a : ℕ) (xs ys zs : List ℕ) → length ys ≡ a → patched a (length (ys ++ drop a xs) - a) zs (ys ++ drop a xs) ≡ ys ++ zs

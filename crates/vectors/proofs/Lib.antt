@@ -3,3 +3,4 @@ pub mod Amounts
 pub mod Reading
 pub mod Joining
 pub mod Congruent
+pub mod Mapping

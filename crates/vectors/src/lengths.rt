@@ -1,15 +1,16 @@
 // The lengths that follow from a set's parameters, in bytes.
-ghost use Rattle.std.specs.Prelude.{◌≡◌, ◌-◌, ◌≤◌, max};
+ghost use Rattle.std.specs.Prelude.{◌≡◌, ◌+◌, ◌-◌, ◌≤◌};
 ghost use Rattle.kindi.specs.Params.{WellFormed, width, length_of, stored_length, padded_length, ciphertext_length, polynomial_length, secrets_length, low_length, high_length, rest_length, coins_stream_length};
 
 use kindi::Params;
+use std::ops::Range;
 
 // The width in bits of a small coefficient.
 pub fn width(p: Params) -> u32
     requires { WellFormed p }
     ensures { result ≡ width p }
 {
-    bits::width(2 * (p.p as u32))
+    bits::width(2 * u32::from(p.p))
 }
 
 // The bytes of m polynomials of w bits a coefficient.
@@ -85,9 +86,11 @@ pub fn coins_stream(p: Params) -> usize
     low(p) + (padded(p) + (high(p) + rest(p)))
 }
 
-// The larger one of two lengths, for bytes that serve one string after the other.
-pub fn larger(a: usize, b: usize) -> usize
-    ensures { result ≡ max a b }
+// The mask's place in the stream from the coins.
+pub fn mask(p: Params) -> Range<usize>
+    requires { WellFormed p }
+    ensures { (result.start ≡ low_length p) × (result.end ≡ low_length p + padded_length p) × (result.end ≤ 131072) }
 {
-    if a < b { b } else { a }
+    let at = low(p);
+    at..at + padded(p)
 }

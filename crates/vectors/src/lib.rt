@@ -15,19 +15,6 @@ use kindi::Params;
 use packing::unpack;
 use ring::poly::centre;
 
-// Room for a vector, for one with a polynomial more, and for one polynomial.
-pub fn zeros() -> [u16; 1536] {
-    [0; 1536]
-}
-
-pub fn sums() -> [u16; 2048] {
-    [0; 2048]
-}
-
-pub fn polynomial() -> [u16; 512] {
-    [0; 512]
-}
-
 pub fn power(i: u32) -> u16
     requires { i < 16 }
     ensures { result ≡ 2 ^ i }
@@ -44,23 +31,13 @@ pub fn small(w: u32, bytes: &[u8], c: u16, dst: &mut [u16])
     centre(dst, c);
 }
 
-// c times 2^t, modulo 2^16.
-fn shift(c: u16, t: u32) -> u16
-    requires { t < 16 }
-    ensures { result ≡ 2 ^ t * c % 65536 }
-{
-    (((c as u32) << t) % 65536) as u16
-}
-
-// Each coefficient times 2^t.
+// Each coefficient times 2^t, modulo 2^16.
 pub fn raise(xs: &mut [u16], t: u32)
     requires { t < 16 }
     ensures { xs.new ≡ raised t xs.old }
 {
-    let mut i = 0;
-    while i < xs.len() {
-        xs[i] = shift(xs[i], t);
-        i += 1;
+    for x in xs.iter_mut() {
+        *x <<= t;
     }
 }
 
@@ -69,9 +46,7 @@ pub fn compress(xs: &mut [u16], t: u32)
     requires { t < 16 }
     ensures { xs.new ≡ map (compress t) xs.old }
 {
-    let mut i = 0;
-    while i < xs.len() {
-        xs[i] = xs[i] >> t;
-        i += 1;
+    for x in xs.iter_mut() {
+        *x >>= t;
     }
 }

@@ -7,11 +7,5 @@ pub fn same_bytes(a: &[u8], b: &[u8]) -> bool
     requires { length a.now ≡ length b.now }
     ensures { result ≡ same a.now b.now }
 {
-    let mut all = true;
-    let mut i = 0;
-    while i < a.len() {
-        all = all & (a[i] == b[i]);
-        i += 1;
-    }
-    all
+    a.iter().zip(b).fold(true, |all, (x, y)| all & (*x == *y))
 }

@@ -17,10 +17,12 @@ pub loop-i-preserved : goal.loop-i-preserved
 loop-i-preserved c =
     let src = c.args.src.now in
     let i = c.loop-i.i in
-    let bytes : Below 256 src = λ i. (c.shared_slice_known-in-loop-i-2-1.given i).fits in
+    let bytes : Below 256 src = λ k. (c.type_inv.src k).fits in
     let low : get_or src (2 * i) 0 ≡ value 8 src / 2 ^ (8 * (2 * i)) % 2 ^ 8 = value_at 8 src (2 * i) bytes in
     let high : get_or src (2 * i + 1) 0 ≡ value 8 src / 2 ^ (8 * (2 * i + 1)) % 2 ^ 8 = value_at 8 src (2 * i + 1) bytes in
-    filling_more 0 c.loop-i.invariant (omega arith) (c.pair.ensures ∙ rw (low, high) (sym (pair_digit (value 8 src) i)))
+    let swap : get_or src (2 * i) 0 + get_or src (2 * i + 1) 0 * 256 ≡ get_or src (2 * i) 0 + 2 ^ 8 * get_or src (2 * i + 1) 0 = omega arith in
+    filling_more 0 c.loop-i.invariant (omega arith)
+    (c.from_le_bytes.ensures ∙ swap ∙ rw (low, high) (sym (pair_digit (value 8 src) i)))
 
 pub returns : goal.returns
 unfolding unpack

@@ -1,7 +1,6 @@
 -- `bits::load` meets its contract: after i turns the first i coefficients are loaded.
 -- Assumes nothing.
-use Prim.Native.Nat.{◌*◌, ◌/◌, ◌%◌, ◌^◌, ◌-◌, ℕ}
-use lib.ListN.{length}
+use Prim.Native.Nat.{◌*◌, ◌/◌, ◌%◌, ◌^◌, ℕ}
 use Rattle.keccak.specs.Lists.{value}
 use mathlib.Core.List.{List}
 use Rattle.bits.proofs.Filling.{Filling}
@@ -13,6 +12,3 @@ coefficients src i = value 8 src / 2 ^ (16 * i) % 2 ^ 16
 
 abbrev pub invariant-loop-i : goal.invariant-loop-i
 invariant-loop-i l = Filling (coefficients l.src) l.initial.dst l.i l.dst
-
-abbrev pub decreases-loop-i : goal.decreases-loop-i
-decreases-loop-i l = length l.initial.dst - l.i

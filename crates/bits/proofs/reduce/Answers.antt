@@ -9,21 +9,18 @@ use Rattle.bits.proofs.Filling.{tabulate_entries, map-tabulate, filling_begun, f
 use Rattle.bits.specs.Bits.{low_bits}
 use Rattle.bits.proofs.reduce.Goals as goal
 
-pub loop-k-init : goal.loop-k-init
-loop-k-init c = filling_begun
+pub loop-x-init : goal.loop-x-init
+loop-x-init c = filling_begun
 
-pub overflow_cast-xs : goal.overflow_cast-xs
-overflow_cast-xs c = omega (arith, c.slice_known-in-loop-k-1.given c.loop-k.k)
-
-pub loop-k-preserved : goal.loop-k-preserved
-loop-k-preserved c =
-    filling_more 0 c.loop-k.invariant (omega arith)
-    (c.low_bits.ensures ∙ ap (λ (m : ℕ). m % 2 ^ c.args.w) (filling_at 0 c.loop-k.invariant (omega arith)))
+pub loop-x-preserved : goal.loop-x-preserved
+loop-x-preserved c =
+    filling_more 0 c.loop-x.invariant (omega arith)
+    (c.low_bits.ensures ∙ ap (λ (m : ℕ). m % 2 ^ c.args.w) (c.from.ensures ∙ filling_at 0 c.loop-x.invariant (omega arith)))
 
 pub returns : goal.returns
 unfolding low_bits
 returns c =
     let low : ℕ → ℕ = λ x. x % 2 ^ c.args.w in
     let xs = c.args.xs.now in
-    filling_all c.loop-k.invariant refl (omega arith)
+    filling_all c.loop-x.invariant refl (omega arith)
     ∙ sym (map-tabulate low (length xs) (λ j. get_or xs j 0)) ∙ ap (map low) (tabulate_entries xs 0)

@@ -1,6 +1,6 @@
 -- `cipher_terms::decompress` meets its contract.
 -- Assumes nothing.
-use mathlib.Core.Path.{◌≡◌, sym, ◌∙◌}
+use mathlib.Core.Path.{sym, ◌∙◌}
 use Prim.Native.Nat.{◌+◌, ◌-◌, ◌≤◌}
 use native.Mathlib.Nat.{one-mul}
 use native.Mathlib.Omega.{arith}
@@ -57,27 +57,12 @@ small-requires c =
     let W = c.requires.well in
     (omega (arith, W.word, W.kept), reads_rest p W 1 p.t _ c.args.low.now (c.requires.low_long ∙ sym (one-mul p.n)) (low_inside))
 
-pub add-requires : goal.add-requires
-add-requires c =
-    let list_kept : length c.raise.new.xs ≡ c.args.p.n =
-    c.raise.auto.xs ∙ c.unpack.auto.dst ∙ c.requires.list_long in
-    c.small.auto.dst ∙ c.requires.low_long ∙ sym (list_kept)
-
-pub constant-requires : goal.constant-requires
-constant-requires c = c.requires.well
-
-pub add_constant-requires : goal.add_constant-requires
-add_constant-requires c =
-    let list_kept : length c.raise.new.xs ≡ c.args.p.n =
-    c.raise.auto.xs ∙ c.unpack.auto.dst ∙ c.requires.list_long in
-    rw (c.add.auto.acc ∙ list_kept) c.requires.well.some_coefficients
-
 pub returns : goal.returns
 returns c =
     let a = c.args in
     let p = a.p in
-    let pk : Below 256 a.pk.now = λ j. (c.shared_slice_known-1.given j).fits in
-    let low : Below 256 a.low.now = λ j. (c.shared_slice_known-2-1.given j).fits in
+    let pk : Below 256 a.pk.now = λ j. (c.type_inv.pk j).fits in
+    let low : Below 256 a.low.now = λ j. (c.type_inv.low j).fits in
     decompressed_is p c.requires.well a.pk.now a.low.now pk low a.i c.length_of-from.result c.length_of-at.result
     c.constant.result c.power.result (length a.f.now) (length a.w.now) c.length_of-from.ensures.0
     c.length_of-at.ensures.0 c.constant.ensures c.power.ensures c.requires.list_long c.requires.low_long

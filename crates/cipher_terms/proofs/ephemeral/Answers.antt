@@ -15,49 +15,6 @@ use mathlib.Core.List.{List, ◌++◌}
 use mathlib.Core.Path.{◌≡◌, sym, ap₂, ◌∙◌}
 use Rattle.cipher_terms.proofs.ephemeral.Goals as goal
 
-pub slice_bounds-first-end : goal.slice_bounds-first-end
-slice_bounds-first-end c = omega (arith, begins c.args.p c.requires.well, c.requires.secret_long)
-
-pub slice_bounds-first-end-2 : goal.slice_bounds-first-end-2
-slice_bounds-first-end-2 c =
-    let secret_part : length (take c.args.p.n c.args.s.now) ≡ c.args.p.n =
-    simp length-take (omega (arith, begins c.args.p c.requires.well, c.requires.secret_long)) in
-    sym (secret_part)
-
-pub first-requires : goal.first-requires
-first-requires c =
-    let secret_part : length (take c.args.p.n c.args.s.now) ≡ c.args.p.n =
-    simp length-take (omega (arith, begins c.args.p c.requires.well, c.requires.secret_long)) in
-    (c.requires.well, c.requires.coins_long, c.requires.high_there, c.requires.high_long, secret_part)
-
-pub slice_bounds-small-count : goal.slice_bounds-small-count
-slice_bounds-small-count c =
-    let begun : List ℕ =
-    c.first.new.dst ++ drop c.args.p.n c.args.s.now in
-    let secret_part : length (take c.args.p.n c.args.s.now) ≡ c.args.p.n =
-    simp length-take (omega (arith, begins c.args.p c.requires.well, c.requires.secret_long)) in
-    let first_size : length c.first.new.dst ≡ c.args.p.n =
-    c.first.auto.dst ∙ secret_part in
-    let begun_size : length (begun) ≡ c.args.p.l * c.args.p.n =
-    let p = c.args.p in
-    begun_length p.n c.first.new.dst c.args.s.now (first_size) c.requires.secret_long
-    (begins p c.requires.well) in
-    omega (arith, begins c.args.p c.requires.well, begun_size)
-
-pub slice_bounds-small-start : goal.slice_bounds-small-start
-slice_bounds-small-start c =
-    let begun : List ℕ =
-    c.first.new.dst ++ drop c.args.p.n c.args.s.now in
-    let secret_part : length (take c.args.p.n c.args.s.now) ≡ c.args.p.n =
-    simp length-take (omega (arith, begins c.args.p c.requires.well, c.requires.secret_long)) in
-    let first_size : length c.first.new.dst ≡ c.args.p.n =
-    c.first.auto.dst ∙ secret_part in
-    let begun_size : length (begun) ≡ c.args.p.l * c.args.p.n =
-    let p = c.args.p in
-    begun_length p.n c.first.new.dst c.args.s.now (first_size) c.requires.secret_long
-    (begins p c.requires.well) in
-    omega (arith, begins c.args.p c.requires.well, begun_size)
-
 pub small-requires : goal.small-requires
 small-requires c =
     let begun : List ℕ =

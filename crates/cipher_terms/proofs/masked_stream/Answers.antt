@@ -6,6 +6,6 @@ use Rattle.cipher_terms.proofs.masked_stream.Goals as goal
 pub returns : goal.returns
 returns c =
     let a = c.args in
-    masked_made a.p a.coins.now a.message.now c.low-at.result c.padded.result
-    c.low-at.ensures.0 c.padded.ensures.0 c.requires.2 c.shake.ensures
+    masked_made a.p a.coins.now a.message.now c.mask.result.start c.mask.result.end
+    c.mask.ensures.0 c.mask.ensures.1 c.requires.2 c.shake.ensures
     c.add_padded.ensures

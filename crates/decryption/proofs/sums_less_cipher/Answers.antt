@@ -1,19 +1,16 @@
 -- `decryption::sums_less_cipher` meets its contract.
 -- Assumes nothing.
 use Rattle.decryption.proofs.Sums.{stream_there, stream_of, mask_there, sums_less}
-use Rattle.kindi.specs.Params.{low_length, padded_length, coins_stream_length}
+use Rattle.kindi.specs.Params.{coins_stream_length}
 use Rattle.kindi.specs.Streams.{coins_stream}
 use Rattle.vectors.proofs.Amounts.{reads}
 use Rattle.vectors.proofs.Joining.{first_same}
-use lib.ListN.{length, take, drop, length-take}
+use lib.ListN.{length, take, drop}
 use Prim.Native.Nat.{ℕ, ◌+◌}
 use native.Mathlib.Omega.{arith}
 use mathlib.Core.List.{List, ◌++◌}
-use mathlib.Core.Path.{◌≡◌, ap₂, ◌∙◌}
+use mathlib.Core.Path.{◌≡◌, ◌∙◌}
 use Rattle.decryption.proofs.sums_less_cipher.Goals as goal
-
-pub slice_bounds-shake-end-2 : goal.slice_bounds-shake-end-2
-slice_bounds-shake-end-2 c = simp length-take (omega (arith, c.coins_stream-stream.ensures.0, c.requires.work_long))
 
 pub unpack-requires : goal.unpack-requires
 unpack-requires c =
@@ -31,8 +28,6 @@ add_noiseless-requires c =
     let is = c.coins_stream-stream.ensures.0 in
     stream_there c.args.p c.args.coins.now c.args.work.now c.shake.new.output is
     (omega (arith, is, c.requires.work_long)) c.shake.ensures in
-    let end_is : c.low.result + c.padded.result ≡ low_length c.args.p + padded_length c.args.p =
-    ap₂ ◌+◌ c.low.ensures.0 c.padded.ensures.0 in
     let pre = c.requires in
     let p = c.args.p in
     record {
@@ -41,7 +36,7 @@ add_noiseless-requires c =
       coins_long = pre.coins_long;
       stream_fits = omega (arith, written_long, pre.work_long);
       stream = stream_of p c.args.coins.now (stream);
-      polynomial_fits = omega (arith, written_long, end_is, pre.work_long);
+      polynomial_fits = omega (arith, written_long, c.mask-end.ensures.1, pre.work_long);
       secret_long = pre.secret_long;
       sums_long = c.subtract_from.auto.xs ∙ c.unpack.auto.dst ∙ pre.sums_long;
     }
@@ -54,12 +49,10 @@ returns c =
     let is = c.coins_stream-stream.ensures.0 in
     stream_there c.args.p c.args.coins.now c.args.work.now c.shake.new.output is
     (omega (arith, is, c.requires.work_long)) c.shake.ensures in
-    let end_is : c.low.result + c.padded.result ≡ low_length c.args.p + padded_length c.args.p =
-    ap₂ ◌+◌ c.low.ensures.0 c.padded.ensures.0 in
     let a = c.args in
     record {
       sums_are = sums_less a.p a.pk.now a.ct.now a.coins.now c.requires.sums_long c.unpack.ensures
           c.subtract_from.ensures c.add_noiseless.ensures.sums_are;
-      mask_is = mask_there a.p a.coins.now (written) _ (end_is) (stream)
+      mask_is = mask_there a.p a.coins.now (written) _ c.mask-end.ensures.1 (stream)
           c.add_noiseless.ensures.kept;
     }

@@ -4,51 +4,12 @@ use Rattle.keys.proofs.Made.{stream_there, stream_kept, public_made}
 use Rattle.hash.specs.Shake.{shake}
 use Rattle.hash.proofs.Laws.{length-shake}
 use Rattle.kindi.specs.Params.{secrets_length}
-use lib.ListN.{length, take, drop, length-take}
+use lib.ListN.{length, take, drop}
 use native.Mathlib.Omega.{arith}
 use Prim.Native.Nat.{ℕ, ◌+◌, ◌-◌, ◌≤◌}
 use mathlib.Core.List.{List, ◌++◌}
-use mathlib.Core.Path.{◌≡◌, sym, ap, ◌∙◌}
+use mathlib.Core.Path.{◌≡◌, ap, ◌∙◌}
 use Rattle.keys.proofs.public_vector.Goals as goal
-
-pub slice_bounds-shake-end-2 : goal.slice_bounds-shake-end-2
-slice_bounds-shake-end-2 c =
-    let secrets_fit : c.secrets-secrets.result ≤ length c.args.work.now =
-    omega (arith, c.secrets-secrets.ensures.0, c.requires.stream.secrets_fit) in
-    simp length-take (omega (arith, secrets_fit))
-
-pub slice_bounds-read_secrets-end-2 : goal.slice_bounds-read_secrets-end-2
-slice_bounds-read_secrets-end-2 c =
-    let written : List ℕ =
-    c.shake.new.output ++ drop c.secrets-secrets.result c.args.work.now in
-    let secrets_fit : c.secrets-secrets.result ≤ length c.args.work.now =
-    omega (arith, c.secrets-secrets.ensures.0, c.requires.stream.secrets_fit) in
-    let stream : take c.secrets-secrets.result (written) ≡ shake c.args.p.rate c.args.gamma.now (secrets_length c.args.p) =
-    let a = c.args in
-    stream_there a.p.rate a.work.now a.gamma.now c.secrets-secrets.ensures.0 (secrets_fit) c.shake.ensures in
-    let stream_long : length (take c.secrets-secrets.result (written)) ≡ secrets_length c.args.p =
-    let a = c.args in
-    ap length (stream) ∙ length-shake a.p.rate a.gamma.now (secrets_length a.p) in
-    sym (stream_long ∙ sym c.secrets-secrets.ensures.0)
-
-pub read_secrets-requires : goal.read_secrets-requires
-read_secrets-requires c =
-    let written : List ℕ =
-    c.shake.new.output ++ drop c.secrets-secrets.result c.args.work.now in
-    let secrets_fit : c.secrets-secrets.result ≤ length c.args.work.now =
-    omega (arith, c.secrets-secrets.ensures.0, c.requires.stream.secrets_fit) in
-    let stream : take c.secrets-secrets.result (written) ≡ shake c.args.p.rate c.args.gamma.now (secrets_length c.args.p) =
-    let a = c.args in
-    stream_there a.p.rate a.work.now a.gamma.now c.secrets-secrets.ensures.0 (secrets_fit) c.shake.ensures in
-    let stream_long : length (take c.secrets-secrets.result (written)) ≡ secrets_length c.args.p =
-    let a = c.args in
-    ap length (stream) ∙ length-shake a.p.rate a.gamma.now (secrets_length a.p) in
-    record {
-      well = c.requires.stream.well;
-      stream_long = stream_long;
-      secret_long = c.requires.secret_long;
-      sums_long = c.requires.sums_long;
-    }
 
 pub returns : goal.returns
 returns c =

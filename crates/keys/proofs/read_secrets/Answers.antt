@@ -44,6 +44,6 @@ returns c =
     let stream = c.args.stream.now in
     let width = c.width-w.ensures in (
       secret_read p stream width c.requires.secret_long c.small.ensures,
-      errors_read p c.requires.well stream (λ i. (c.shared_slice_known-1.given i).fits) c.length_of-at.result width
+      errors_read p c.requires.well stream (λ i. (c.type_inv.stream i).fits) c.length_of-at.result width
           c.requires.sums_long c.length_of-at.ensures.0 c.small-2.ensures,
     )

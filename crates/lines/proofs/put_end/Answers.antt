@@ -11,6 +11,4 @@ pub put-requires : goal.put-requires
 put-requires c = omega (arith, decimal_fits c.args.number (omega arith))
 
 pub returns : goal.returns
-returns c =
-    written_end _ c.put-n.ensures c.put-n-2.ensures c.put-n-3.ensures c.put-n-4.ensures c.put_decimal-n.ensures
-    c.put.ensures
+returns c = written_end _ c.put-n.ensures c.put_decimal-n.ensures c.put.ensures

@@ -3,5 +3,5 @@
 use Rattle.lines.proofs.Texts.{written_hex}
 use Rattle.lines.proofs.put_hex.Goals as goal
 
-pub returns : goal.returns
-returns c = written_hex _ c.args.bytes.now _ c.spell.ensures c.requires
+pub returns-clause-written : goal.returns-clause-written
+returns-clause-written c = written_hex _ c.args.bytes.now _ c.spell.ensures c.requires

@@ -10,5 +10,8 @@ put_decimal-next-requires c = omega (arith, decimal_fits c.args.v (omega arith))
 pub put-requires : goal.put-requires
 put-requires c = omega (arith, decimal_fits c.args.v (omega arith))
 
-pub returns : goal.returns
-returns c = written_then c.put_decimal-next.ensures c.put.ensures
+pub returns-clause-written : goal.returns-clause-written
+returns-clause-written c = written_then c.put_decimal-next.ensures c.put.ensures
+
+pub returns-clause-within : goal.returns-clause-within
+returns-clause-within c = omega (arith, decimal_fits c.args.v (omega arith))

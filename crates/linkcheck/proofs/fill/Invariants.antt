@@ -1,13 +1,12 @@
 -- `linkcheck::fill` meets its contract: what is left to read falls with every read, and what was left stays at the front.
 -- Assumes nothing.
-use mathlib.Core.Bool.{cond}
-use Prim.Native.Nat.{◌+◌, ◌-◌}
+use Prim.Native.Nat.{◌-◌}
 use lib.ListN.{length}
 use Rattle.linkcheck.proofs.Laws.{Reading}
 use Rattle.linkcheck.proofs.fill.Given as goal
 
-abbrev pub invariant-loop-more : goal.invariant-loop-more
-invariant-loop-more g l = Reading l.initial.input (l.to - l.from) l.input l.end l.more
+abbrev pub invariant-reads : goal.invariant-reads
+invariant-reads g l = Reading l.initial.input (l.s.to - l.s.from) l.input l.to
 
-abbrev pub decreases-loop-more : goal.decreases-loop-more
-decreases-loop-more g l = (length l.input - l.end) + cond l.more 1 0
+abbrev pub decreases-reads : goal.decreases-reads
+decreases-reads g l = length l.input - l.to

@@ -5,8 +5,8 @@ use Prim.Native.Nat.{◌-◌}
 use Rattle.linkcheck.proofs.Laws.{Running}
 use Rattle.linkcheck.proofs.run.Given as goal
 
-abbrev pub invariant-loop-ended : goal.invariant-loop-ended
-invariant-loop-ended g l = Running l.s l.ended l.initial.work l.input l.out l.first l.second l.work
+abbrev pub invariant-turns : goal.invariant-turns
+invariant-turns g l = Running l.s l.initial.b.work l.b.input l.b.out l.b.first l.b.second l.b.work
 
-abbrev pub decreases-loop-ended : goal.decreases-loop-ended
-decreases-loop-ended g l = cond l.ended 0 (65535 - l.s.done)
+abbrev pub decreases-turns : goal.decreases-turns
+decreases-turns g l = cond l.s.ended 0 (65535 - l.s.done)

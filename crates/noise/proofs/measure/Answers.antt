@@ -1,6 +1,6 @@
 -- `noise::measure` meets its contract.
 -- Assumes nothing.
-use mathlib.Core.Path.{◌≡◌, sym, ap, ap₂, ◌∙◌}
+use mathlib.Core.Path.{◌≡◌, ap, ◌∙◌}
 use mathlib.Core.List.{List, ◌++◌}
 use Prim.Native.Nat.{ℕ, ◌+◌, ◌-◌, ◌≤◌}
 use native.Mathlib.Omega.{arith}
@@ -16,25 +16,6 @@ use Rattle.noise.specs.Terms.{noises_from}
 use Rattle.noise.proofs.Agreeing.{length-value}
 use Rattle.noise.proofs.Streams.{masked_stream, stream_stays, streams_written, streams_size, noises_are}
 use Rattle.noise.proofs.measure.Goals as goal
-
-pub slice_bounds-sizes-end-2 : goal.slice_bounds-sizes-end-2
-slice_bounds-sizes-end-2 c =
-    let written : List ℕ =
-    let s : ℕ = c.secrets-secrets.result in
-    patched s (s + c.coins_stream.result - s) c.masked_stream.new.stream c.args.work.now in
-    let room : c.secrets-secrets.result + c.coins_stream.result ≤ length c.args.work.now =
-    omega (arith, c.secrets-secrets.ensures.0, c.coins_stream.ensures.0, c.requires.work_long) in
-    let streams : take (c.secrets-secrets.result + c.coins_stream.result) written
-    ≡ shake c.args.p.rate (secret_seed c.args.p c.args.sk.now) (secrets_length c.args.p) ++
-    masked_stream c.args.p c.args.coins.now c.args.message.now =
-    let a = c.args in
-    streams_written a.p a.sk.now a.coins.now a.message.now a.work.now c.secrets-secrets.ensures.0
-    c.coins_stream.ensures.0 room c.requires.stream_kept c.masked_stream.ensures in
-    let streams_long : length (take (c.secrets-secrets.result + c.coins_stream.result) written)
-    ≡ secrets_length c.args.p + coins_stream_length c.args.p =
-    let a = c.args in
-    ap length streams ∙ streams_size a.p a.sk.now a.coins.now a.message.now in
-    sym (streams_long ∙ sym (ap₂ ◌+◌ c.secrets-secrets.ensures.0 c.coins_stream.ensures.0))
 
 pub sizes-requires : goal.sizes-requires
 sizes-requires c =

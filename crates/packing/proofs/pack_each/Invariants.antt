@@ -1,12 +1,7 @@
--- `packing::pack_each` meets its contract: after i turns the string holds the bits of the first i coefficients.
+-- `packing::pack_each` meets its contract: after each turn the string holds the bits of one coefficient more.
 -- Assumes nothing.
-use Prim.Native.Nat.{◌-◌}
-use lib.ListN.{length}
 use Rattle.packing.proofs.Packing.{Packed}
 use Rattle.packing.proofs.pack_each.Given as goal
 
-abbrev pub invariant-loop-i : goal.invariant-loop-i
-invariant-loop-i l = Packed l.w l.src l.i l.k l.count l.pending l.dst
-
-abbrev pub decreases-loop-i : goal.decreases-loop-i
-decreases-loop-i l = length l.src - l.i
+abbrev pub invariant-loop-c : goal.invariant-loop-c
+invariant-loop-c l = Packed l.w l.src l.c-index l.k l.count l.pending l.dst

@@ -14,27 +14,27 @@ use Rattle.ring.specs.Integers.{between, all_between}
 use Rattle.keccak.proofs.Loops.{carried_list}
 use Rattle.signed.proofs.all_between.Goals as goal
 
-pub loop-i-init : goal.loop-i-init
+pub loop-x-init : goal.loop-x-init
 unfolding all_between
-loop-i-init c = record { within = omega arith; is = refl }
+loop-x-init c = record { within = omega arith; is = refl }
 
-pub loop-i-preserved : goal.loop-i-preserved
-loop-i-preserved c =
+pub loop-x-preserved : goal.loop-x-preserved
+loop-x-preserved c =
     let a = c.args in
     let low = to_z w32 (of_z w32 a.low) in
     let high = to_z w32 (of_z w32 a.high) in
-    let x = get_or a.xs.now c.loop-i.i (pos 0) in
+    let x = get_or a.xs.now c.loop-x.x-index (pos 0) in
     let same : to_z w32 (of_z w32 x) ≡ x = to_z-of_z w32 x (record { sfits = omega arith }) in
     record {
       within = omega arith;
       is =
           rw (add-one, same)
-          (ap (λ (t : Bool). t && between low high x) c.loop-i.invariant.is
-          ∙ sym (all_more low high a.xs.now c.loop-i.i (pos 0) (omega arith)));
+          (ap (λ (t : Bool). t && between low high x) c.loop-x.invariant.is
+          ∙ sym (all_more low high a.xs.now c.loop-x.x-index (pos 0) (omega arith)));
     }
 
 pub returns : goal.returns
 returns c =
     let a = c.args in
-    carried_list a.xs.now (all_between (to_z w32 (of_z w32 a.low)) (to_z w32 (of_z w32 a.high))) c.loop-i.invariant (omega arith)
+    carried_list a.xs.now (all_between (to_z w32 (of_z w32 a.low)) (to_z w32 (of_z w32 a.high))) c.loop-x.invariant (omega arith)
     ∙ rw (to_z-of_z w32 a.low c.ranges.low, to_z-of_z w32 a.high c.ranges.high)

@@ -1,13 +1,9 @@
 -- `signed::all_between` meets its contract: after i turns it is known whether the first i numbers lie between.
 -- Assumes nothing.
-use Prim.Native.Nat.{◌-◌}
 use lib.ListN.{length, take}
 use Rattle.ring.specs.Integers.{all_between}
 use Rattle.keccak.proofs.Loops.{Carried}
 use Rattle.signed.proofs.all_between.Given as goal
 
-abbrev pub invariant-loop-i : goal.invariant-loop-i
-invariant-loop-i l = Carried (length l.xs) (λ k. all_between l.low l.high (take k l.xs)) l.i l.all
-
-abbrev pub decreases-loop-i : goal.decreases-loop-i
-decreases-loop-i l = length l.xs - l.i
+abbrev pub invariant-loop-x : goal.invariant-loop-x
+invariant-loop-x l = Carried (length l.xs) (λ k. all_between l.low l.high (take k l.xs)) l.x-index l.all

@@ -1,13 +1,9 @@
 -- `signed::centre` meets its contract: after k turns the first k values are centred.
 -- Assumes nothing.
-use Prim.Native.Nat.{◌-◌}
-use lib.ListN.{length, get_or}
+use lib.ListN.{get_or}
 use Rattle.ring.specs.Integers.{centred}
 use Rattle.bits.proofs.Filling.{Filling}
 use Rattle.signed.proofs.centre.Given as goal
 
 abbrev pub invariant-loop-k : goal.invariant-loop-k
 invariant-loop-k l = Filling (λ j. centred l.p (get_or l.src j 0)) l.initial.dst l.k l.dst
-
-abbrev pub decreases-loop-k : goal.decreases-loop-k
-decreases-loop-k l = length l.initial.dst - l.k

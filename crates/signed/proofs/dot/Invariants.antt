@@ -1,7 +1,7 @@
 -- `signed::dot` meets its contract: after the blocks one product a turn is added.
 -- Assumes nothing.
 use mathlib.Core.Path.{◌≡◌}
-use Prim.Native.Nat.{◌-◌, ◌≤◌}
+use Prim.Native.Nat.{◌≤◌}
 use lib.ListN.{length}
 use Rattle.ring.specs.Poly.{sum}
 use Rattle.ring.specs.Terms.{terms}
@@ -9,6 +9,3 @@ use Rattle.signed.proofs.dot.Given as goal
 
 abbrev pub invariant-loop-i : goal.invariant-loop-i
 invariant-loop-i l = record { within : l.i ≤ length l.a; summed : l.total ≡ sum l.i (terms l.a l.b) }
-
-abbrev pub decreases-loop-i : goal.decreases-loop-i
-decreases-loop-i l = length l.a - l.i

@@ -1,7 +1,7 @@
 -- `signed::dot_blocks` meets its contract: after each turn the products up to i are added.
 -- Assumes nothing.
 use mathlib.Core.Path.{◌≡◌, refl, ap, ◌∙◌}
-use Prim.Native.Nat.{ℕ, ◌*◌, ◌/◌}
+use Prim.Native.Nat.{ℕ, ◌+◌, ◌*◌, ◌/◌}
 use native.Mathlib.Omega.{arith}
 use lib.ListN.{length}
 use Rattle.ring.specs.Poly.{sum}
@@ -34,3 +34,11 @@ pub returns : goal.returns
 returns c =
     let all : c.loop-i.i ≡ length c.args.a.now / 32 * 32 = omega arith in
     c.loop-i.invariant.summed ∙ ap (λ (n : ℕ). sum n (terms c.args.a.now c.args.b.now)) all
+
+pub returns-2 : goal.returns-2
+returns-2 c =
+    let all : c.loop-i.i + 32 ≡ length c.args.a.now / 32 * 32 = omega arith in
+    sum_more c.args.a.now c.args.b.now c.requires c.loop-i.invariant.within c.loop-i.invariant.summed 32
+    (omega arith) (record { sfits = c.thirty_two-total.type_inv })
+    c.thirty_two-total.ensures
+    ∙ ap (λ (n : ℕ). sum n (terms c.args.a.now c.args.b.now)) all

@@ -1,19 +1,7 @@
--- `vectors::raise` meets its contract: after i turns the first i coefficients are multiplied.
+-- `vectors::raise` meets its contract: the coefficients before x are multiplied.
 -- Assumes nothing.
-use lib.IntN.{pos}
-use Rattle.ring.specs.Integers.{residue}
-use lib.ListN.{length, get_or}
-use Prim.Native.Nat.{ℕ, ◌*◌, ◌-◌, ◌^◌}
-use mathlib.Core.List.{List}
-use Rattle.bits.proofs.Filling.{Filling}
+use Rattle.std.proofs.Common.{◌≡◌, map, ◌*◌, ◌%◌, ◌^◌, ◌++◌, take, drop}
 use Rattle.vectors.proofs.raise.Given as goal
 
--- The coefficients multiplied by 2^t.
-abbrev pub raised : List ℕ → ℕ → ℕ → ℕ
-raised xs t j = residue 65536 (pos (2 ^ t * get_or xs j 0))
-
-abbrev pub invariant-loop-i : goal.invariant-loop-i
-invariant-loop-i l = Filling (raised l.initial.xs l.t) l.initial.xs l.i l.xs
-
-abbrev pub decreases-loop-i : goal.decreases-loop-i
-decreases-loop-i l = length l.initial.xs - l.i
+abbrev pub invariant-loop-x : goal.invariant-loop-x
+invariant-loop-x l = l.xs ≡ map (λ c. c * 2 ^ l.t % 65536) (take l.x-index l.initial.xs) ++ drop l.x-index l.initial.xs

@@ -3,8 +3,8 @@
 use Rattle.calls.proofs.FromPlace.{shake_refused, shake_exit}
 use Rattle.calls.proofs.shake.from_place.Goals as goal
 
-pub returns-then-past : goal.returns-then-past
-returns-then-past c = search shake_refused
+pub returns-in_err-require : goal.returns-in_err-require
+returns-in_err-require c = shake_refused c.within.ensures c.from_residual.result c.in_err-require.ensures.refused c.from_residual.ensures.1
 
 pub returns : goal.returns
-returns c = search shake_exit
+returns c = shake_exit c.within.ensures c.in_ok-require.ensures.ok c.shake_from.ensures

@@ -1,7 +1,7 @@
 -- `decryption::recover::noisy_value` meets its contract.
 -- Assumes nothing.
 use Rattle.decryption.proofs.Value.{value_left, cipher_vector}
-use Rattle.vectors.proofs.Amounts.{reads, reads_rest, within, length-le, vectors_of}
+use Rattle.vectors.proofs.Amounts.{reads, reads_rest, within, length-le}
 use Rattle.vectors.proofs.Reading.{rest_entries}
 use Rattle.kindi.specs.Decrypt.{cipher_part}
 use Rattle.bits.specs.Bits.{Below, unpack}
@@ -45,12 +45,6 @@ unpack-requires-2 c =
           )),
     )
 
-pub dot_add-requires : goal.dot_add-requires
-dot_add-requires c =
-    let pre = c.requires in
-    vectors_of _ pre.well (c.negate.auto.dst ∙ pre.sum) (c.unpack.auto.dst ∙ pre.vector_long)
-    pre.secret_long
-
 pub returns : goal.returns
 unfolding cipher_part
 returns c =
@@ -59,7 +53,7 @@ returns c =
     let pre = c.requires in
     let W = pre.well in
     let ct = a.ct.now in
-    let bytes : Below 256 ct = λ x. (c.shared_slice_known-1.given x).fits in
+    let bytes : Below 256 ct = λ x. (c.type_inv.ct x).fits in
     c.negate-2.ensures
     ∙ value_left p ct a.r.now c.unpack.new.dst c.unpack-2.new.dst
     c.negate.new.dst c.dot_add.new.acc

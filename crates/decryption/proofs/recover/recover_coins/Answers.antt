@@ -1,105 +1,55 @@
 -- `decryption::recover::recover_coins` meets its contract.
 -- Assumes nothing.
-use Rattle.decryption.proofs.Value.{secret_fits, coins_recovered}
-use Rattle.decryption.specs.Opened.{coins_from}
-use Rattle.hash.specs.Shake.{shake}
-use Rattle.kindi.specs.Params.{width, length_of}
-use Rattle.vectors.proofs.Joining.{first_same}
-use lib.ListN.{length, take, drop, length-take}
-use lib.Seq.{take_at}
+use mathlib.Core.Path.{◌≡◌, sym, ap, ◌∙◌}
+use mathlib.Core.List.{List}
 use Prim.Native.Nat.{ℕ, ◌≤◌}
 use native.Mathlib.Omega.{arith}
-use mathlib.Core.List.{List, ◌++◌}
-use mathlib.Core.Path.{◌≡◌, sym, ap, ◌∙◌}
-use borrow.Author.Rules.{rules}
+use lib.ListN.{length, take, length-take, length-append}
+use lib.Seq.{take_at}
+use Rattle.hash.specs.Shake.{shake}
+use Rattle.kindi.specs.declared.Params.{Params}
+use Rattle.kindi.specs.Params.{width, length_of}
+use Rattle.decryption.specs.Inputs.{RecoverRoom}
+use Rattle.decryption.specs.Opened.{coins_from}
+use Rattle.decryption.proofs.Value.{secret_fits, coins_recovered}
 use Rattle.decryption.proofs.recover.recover_coins.Goals as goal
 
+-- The bytes of the secret vector, which lie within the work area.
+record Secret (P : Params) (work : List ℕ) (need : ℕ) : Type 0 where
+  need_is : need ≡ length_of P P.l (width P)
+  fits : need ≤ length work
+  part_long : length (take need work) ≡ need
+
+secret : {P : Params} {ct coins work : List ℕ} {need w : ℕ} → RecoverRoom P ct coins work → need ≡ length_of P P.l w → w ≡ width P
+    → Secret P work need
+secret {P} {work = work} {need = need} room e is =
+    let need_is : need ≡ length_of P P.l (width P) = e ∙ ap (length_of P P.l) is in
+    let fits : need ≤ length work = omega (arith, need_is, secret_fits P, room.work_long) in
+    record { need_is = need_is; fits = fits; part_long = simp length-take (omega (arith, fits)) }
+
 pub slice_bounds-shake-end : goal.slice_bounds-shake-end
-slice_bounds-shake-end c =
-    let need_is : c.length_of-need.result ≡ length_of c.args.p c.args.p.l (width c.args.p) =
-    c.length_of-need.ensures.0 ∙ ap (length_of c.args.p c.args.p.l) c.width.ensures in
-    let room : c.length_of-need.result ≤ length c.args.work.now =
-    omega (arith, need_is, secret_fits c.args.p, c.requires.work_long) in
-    room
+slice_bounds-shake-end c = (secret c.requires c.length_of-need.ensures.0 c.width.ensures).fits
 
 pub slice_bounds-shake-end-2 : goal.slice_bounds-shake-end-2
-slice_bounds-shake-end-2 c =
-    let need_is : c.length_of-need.result ≡ length_of c.args.p c.args.p.l (width c.args.p) =
-    c.length_of-need.ensures.0 ∙ ap (length_of c.args.p c.args.p.l) c.width.ensures in
-    let room : c.length_of-need.result ≤ length c.args.work.now =
-    omega (arith, need_is, secret_fits c.args.p, c.requires.work_long) in
-    let fresh : length (take c.length_of-need.result c.args.work.now) ≡ c.length_of-need.result =
-    simp length-take (omega (arith, room)) in
-    sym (fresh)
+slice_bounds-shake-end-2 c = sym (secret c.requires c.length_of-need.ensures.0 c.width.ensures).part_long
 
 pub slice_bounds-coins_from-end : goal.slice_bounds-coins_from-end
 slice_bounds-coins_from-end c =
-    let need_is : c.length_of-need.result ≡ length_of c.args.p c.args.p.l (width c.args.p) =
-    c.length_of-need.ensures.0 ∙ ap (length_of c.args.p c.args.p.l) c.width.ensures in
-    let room : c.length_of-need.result ≤ length c.args.work.now =
-    omega (arith, need_is, secret_fits c.args.p, c.requires.work_long) in
-    let same : length (c.shake.new.output ++ drop c.length_of-need.result c.args.work.now) ≡
-    length c.args.work.now
-    = first_same c.length_of-need.result c.shake.new.output c.args.work.now
-    c.shake.auto.output in
-    omega (arith, same, room)
+    let s = secret c.requires c.length_of-need.ensures.0 c.width.ensures in
+    simp length-append (omega (arith, c.shake.auto.output, s.part_long))
 
 pub slice_bounds-coins_from-end-2 : goal.slice_bounds-coins_from-end-2
 slice_bounds-coins_from-end-2 c =
-    let need_is : c.length_of-need.result ≡ length_of c.args.p c.args.p.l (width c.args.p) =
-    c.length_of-need.ensures.0 ∙ ap (length_of c.args.p c.args.p.l) c.width.ensures in
-    let room : c.length_of-need.result ≤ length c.args.work.now =
-    omega (arith, need_is, secret_fits c.args.p, c.requires.work_long) in
-    let fresh : length (take c.length_of-need.result c.args.work.now) ≡ c.length_of-need.result =
-    simp length-take (omega (arith, room)) in
-    let stream_long : length c.shake.new.output ≡ c.length_of-need.result =
-    c.shake.auto.output ∙ fresh in
-    let stream : take c.length_of-need.result
-    (c.shake.new.output ++ drop c.length_of-need.result c.args.work.now) ≡ c.shake.new.output =
-    take_at c.shake.new.output (drop c.length_of-need.result c.args.work.now)
-    c.length_of-need.result (stream_long) in
-    sym (ap length (stream) ∙ stream_long)
-
-pub slice_bounds-coins_from-end-3 : goal.slice_bounds-coins_from-end-3
-slice_bounds-coins_from-end-3 c =
-    let zeros : length c.zeros-r.result ≡ 1536 = search rules in
-    simp length-take (omega (arith, c.requires.well.vector))
-
-pub slice_bounds-coins_from-end-4 : goal.slice_bounds-coins_from-end-4
-slice_bounds-coins_from-end-4 c =
-    let zeros : length c.zeros-f.result ≡ 1536 = search rules in
-    simp length-take (omega (arith, c.requires.well.vector))
-
-pub slice_bounds-coins_from-end-5 : goal.slice_bounds-coins_from-end-5
-slice_bounds-coins_from-end-5 c =
-    let zeros : length c.polynomial-d.result ≡ 512 = search rules in
-    simp length-take (omega (arith, c.requires.well.short))
-
-pub slice_bounds-coins_from-end-6 : goal.slice_bounds-coins_from-end-6
-slice_bounds-coins_from-end-6 c =
-    let zeros : length c.polynomial-v.result ≡ 512 = search rules in
-    simp length-take (omega (arith, c.requires.well.short))
+    let s = secret c.requires c.length_of-need.ensures.0 c.width.ensures in
+    let long = c.shake.auto.output ∙ s.part_long in
+    sym (ap length (take_at _ _ _ long) ∙ long)
 
 pub coins_from-requires : goal.coins_from-requires
 coins_from-requires c =
-    let need_is : c.length_of-need.result ≡ length_of c.args.p c.args.p.l (width c.args.p) =
-    c.length_of-need.ensures.0 ∙ ap (length_of c.args.p c.args.p.l) c.width.ensures in
-    let room : c.length_of-need.result ≤ length c.args.work.now =
-    omega (arith, need_is, secret_fits c.args.p, c.requires.work_long) in
-    let fresh : length (take c.length_of-need.result c.args.work.now) ≡ c.length_of-need.result =
-    simp length-take (omega (arith, room)) in
-    let stream_long : length c.shake.new.output ≡ c.length_of-need.result =
-    c.shake.auto.output ∙ fresh in
-    let stream : take c.length_of-need.result
-    (c.shake.new.output ++ drop c.length_of-need.result c.args.work.now) ≡ c.shake.new.output =
-    take_at c.shake.new.output (drop c.length_of-need.result c.args.work.now)
-    c.length_of-need.result (stream_long) in
     let pre = c.requires in
     let W = pre.well in
-    let zeros : length c.zeros-r.result ≡ 1536 = search rules in
-    let zeros2 : length c.zeros-f.result ≡ 1536 = search rules in
-    let zeros3 : length c.polynomial-d.result ≡ 512 = search rules in
-    let zeros4 : length c.polynomial-v.result ≡ 512 = search rules in
+    let s = secret pre c.length_of-need.ensures.0 c.width.ensures in
+    let long = c.shake.auto.output ∙ s.part_long in
     record {
       room = record {
         well = W;
@@ -109,28 +59,17 @@ coins_from-requires c =
         value_long = simp length-take (omega (arith, W.short));
         sum = simp length-take (omega (arith, W.short));
       };
-      secret_there = rw (stream) (omega (arith, stream_long, need_is));
+      secret_there = rw (take_at c.shake.new.output _ c.length_of-need.result long) (omega (arith, long, s.need_is));
       coins_long = pre.coins_long;
     }
 
 pub returns : goal.returns
 returns c =
-    let need_is : c.length_of-need.result ≡ length_of c.args.p c.args.p.l (width c.args.p) =
-    c.length_of-need.ensures.0 ∙ ap (length_of c.args.p c.args.p.l) c.width.ensures in
-    let room : c.length_of-need.result ≤ length c.args.work.now =
-    omega (arith, need_is, secret_fits c.args.p, c.requires.work_long) in
-    let fresh : length (take c.length_of-need.result c.args.work.now) ≡ c.length_of-need.result =
-    simp length-take (omega (arith, room)) in
-    let stream_long : length c.shake.new.output ≡ c.length_of-need.result =
-    c.shake.auto.output ∙ fresh in
-    let stream : take c.length_of-need.result
-    (c.shake.new.output ++ drop c.length_of-need.result c.args.work.now) ≡ c.shake.new.output =
-    take_at c.shake.new.output (drop c.length_of-need.result c.args.work.now)
-    c.length_of-need.result (stream_long) in
     let a = c.args in
     let p = a.p in
+    let s = secret c.requires c.length_of-need.ensures.0 c.width.ensures in
+    let long = c.shake.auto.output ∙ s.part_long in
     c.coins_from.ensures
     ∙ ap (λ (l : List ℕ). coins_from p l a.ct.now)
-    (stream ∙ c.shake.ensures ∙
-    ap (shake p.rate a.gamma.now) (fresh ∙ need_is))
+    (take_at _ _ _ long ∙ c.shake.ensures ∙ ap (shake p.rate a.gamma.now) (s.part_long ∙ s.need_is))
     ∙ coins_recovered p c.requires.well a.gamma.now a.ct.now

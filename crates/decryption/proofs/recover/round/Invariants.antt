@@ -1,16 +1,11 @@
--- `decryption::recover::round` meets its contract: after i turns the first i values are rounded.
+-- `decryption::recover::round` meets its contract: the values before x are rounded.
 -- Assumes nothing.
-use Rattle.bits.proofs.Filling.{filled}
-use Rattle.kindi.specs.Decrypt.{rounded_bit}
-use lib.ListN.{length, get_or}
-use Prim.Native.Nat.{◌-◌, ◌^◌, ◌≤◌}
+use mathlib.Core.List.{map, ◌++◌}
 use mathlib.Core.Path.{◌≡◌}
+use Prim.Native.Nat.{◌^◌}
+use lib.ListN.{take, drop}
+use Rattle.kindi.specs.Decrypt.{rounded_bit}
 use Rattle.decryption.proofs.recover.round.Given as goal
 
-abbrev pub invariant-loop-i : goal.invariant-loop-i
-invariant-loop-i l =
-    (l.i ≤ length l.initial.xs) × (length l.xs ≡ length l.initial.xs) ×
-    (l.xs ≡ filled l.i (λ j. rounded_bit (2 ^ l.k) (get_or l.initial.xs j 0)) l.initial.xs)
-
-abbrev pub decreases-loop-i : goal.decreases-loop-i
-decreases-loop-i l = length l.initial.xs - l.i
+abbrev pub invariant-loop-x : goal.invariant-loop-x
+invariant-loop-x l = l.xs ≡ map (rounded_bit (2 ^ l.k)) (take l.x-index l.initial.xs) ++ drop l.x-index l.initial.xs

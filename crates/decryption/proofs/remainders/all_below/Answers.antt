@@ -1,32 +1,28 @@
--- `decryption::remainders::all_below` meets its contract: after i turns it is known whether the first i entries are below.
+-- `decryption::remainders::all_below` meets its contract.
 -- Assumes nothing.
-use mathlib.Core.Bool.{Bool, ◌&&◌}
-use mathlib.Core.Path.{refl, sym, ap, ◌∙◌}
-use native.Mathlib.Numerals.{add-one}
-use native.Mathlib.Omega.{arith}
+use Rattle.std.proofs.Common.{rules, ◌≡◌, ℕ, Bool, true, List, [], ◌∷◌}
+use Rattle.std.proofs.Math.Bool.{and_assoc, and-true}
+use Rattle.std.proofs.lemmas.Iterator.Consumers.{fold_from_yields_List}
+use Rattle.std.proofs.lemmas.Iterator.{YieldsList-from_slice}
+use Rattle.std.specs.List.{fold}
+use mathlib.Core.Bool.{◌&&◌}
+use mathlib.Core.Path.{◌∙◌, sym}
 use lib.Dec.{ltb}
-use lib.ListN.{get_or}
-use lib.Seq.{take_all}
 use Rattle.kindi.specs.Decrypt.{all_below}
-use Rattle.decryption.proofs.Remaining.{below_more}
 use Rattle.decryption.proofs.remainders.all_below.Goals as goal
 
-pub loop-i-init : goal.loop-i-init
-unfolding all_below
-loop-i-init c = (omega arith, refl)
+-- Whether it holds before, and the next entry is below the bound.
+abbrev both : ℕ → Bool → ℕ → Bool
+both bound all x = all && ltb x bound
 
-pub loop-i-preserved : goal.loop-i-preserved
-loop-i-preserved c =
-    let h = c.loop-i in
-    let a = c.args in
-    let xs = a.xs.now in (
-      omega arith,
-      rw add-one
-          (ap (λ (t : Bool). t && ltb (get_or xs h.i 0) a.bound) h.invariant.1 ∙ sym (below_more a.bound xs h.i (omega arith))),
-    )
+-- What holds before stays, and what fails stays.
+begun : (bound : ℕ) (xs : List ℕ) (all : Bool) → fold (both bound) all xs ≡ (all && all_below bound xs)
+unfolding all_below
+begun bound [] all = sym (and-true all)
+begun bound (x ∷ xs) all = begun bound xs (all && ltb x bound) ∙ and_assoc all (ltb x bound) (all_below bound xs)
 
 pub returns : goal.returns
 returns c =
-    let h = c.loop-i in
-    let a = c.args in
-    h.invariant.1 ∙ ap (all_below a.bound) (take_all h.i a.xs.now (omega arith))
+    fold_from_yields_List _ (both c.args.bound) true c.fold.result c.fold.ensures.ran (YieldsList-from_slice c.args.xs.now (search rules))
+    (λ all x r f h. search rules)
+    ∙ begun c.args.bound c.args.xs.now true

@@ -1,11 +1,12 @@
 -- `decryption_calls::decaps::open_key` meets its contract: the last checks give the answer's number (`Fitted`).
 -- Assumes nothing.
+use mathlib.Core.Path.{◌∙◌}
 use Prim.Native.Nat.{◌+◌, ◌≤◌}
 use native.Mathlib.Omega.{arith}
 use lib.ListN.{length}
 use Rattle.vectors.proofs.Amounts.{part_length}
 use Rattle.vectors.proofs.Joining.{same_long}
-use Rattle.decryption_calls.proofs.Fitted.{key_refused, key_answered, KeyChecks}
+use Rattle.decryption_calls.proofs.Fitted.{refused_key, passed_key, key_refused, key_answered, KeyChecks}
 use Rattle.decryption_calls.proofs.decaps.open_key.Goals as goal
 
 pub add_padded-requires : goal.add_padded-requires
@@ -47,11 +48,11 @@ slice_bounds-all_zero-end c =
     c.open-fits.new.work (place) c.add_padded.auto.dst in
     omega (arith, same, place)
 
-pub returns-then-outcome-ne0 : goal.returns-then-outcome-ne0
-returns-then-outcome-ne0 c =
+pub returns-in_err-require : goal.returns-in_err-require
+returns-in_err-require c =
     let checks : KeyChecks c.args.p c.args.sk.now c.args.ct.now c.recover_coins.new.coins
     c.open-fits.new.work c.open-fits.result c.low-at.result c.padded.result
-    c.digest.new.d c.add_padded.new.dst c.all_zero-equal.result c.refuse_if-differs.result c.refuse_if-outcome.result =
+    c.digest.new.d c.add_padded.new.dst c.all_zero-equal.result =
     record {
       opening = record {
         well = c.requires.room.well;
@@ -63,10 +64,9 @@ returns-then-outcome-ne0 c =
       digest_is = c.digest.ensures;
       added_is = c.add_padded.ensures;
       equal_is = c.all_zero-equal.ensures;
-      differs_is = c.refuse_if-differs.ensures;
-      status_is = c.refuse_if-outcome.ensures;
     } in
-    key_refused (checks) _ c.if-outcome-ne0.true
+    let bad = c.in_err-require.ensures.refused in
+    key_refused checks _ c.from_residual.result _ (refused_key _ _ (bad.0, bad.1 ∙ c.select-refusal.ensures)) c.from_residual.ensures.1
 
 pub shared_key-requires : goal.shared_key-requires
 shared_key-requires c =
@@ -80,7 +80,7 @@ pub returns : goal.returns
 returns c =
     let checks : KeyChecks c.args.p c.args.sk.now c.args.ct.now c.recover_coins.new.coins
     c.open-fits.new.work c.open-fits.result c.low-at.result c.padded.result
-    c.digest.new.d c.add_padded.new.dst c.all_zero-equal.result c.refuse_if-differs.result c.refuse_if-outcome.result =
+    c.digest.new.d c.add_padded.new.dst c.all_zero-equal.result =
     record {
       opening = record {
         well = c.requires.room.well;
@@ -92,7 +92,5 @@ returns c =
       digest_is = c.digest.ensures;
       added_is = c.add_padded.ensures;
       equal_is = c.all_zero-equal.ensures;
-      differs_is = c.refuse_if-differs.ensures;
-      status_is = c.refuse_if-outcome.ensures;
     } in
-    key_answered (checks) _ c.if-outcome-ne0.false c.shared_key.ensures
+    key_answered checks _ (passed_key _ _ c.in_ok-require.ensures.ok) c.shared_key.ensures

@@ -3,14 +3,14 @@
 use mathlib.Core.Path.{sym, ◌∙◌}
 use native.Mathlib.Omega.{arith}
 use lib.ListN.{length-take, length-drop}
-use Rattle.decryption_calls.proofs.Fitted.{message_refused, message_short, message_answered, MessageChecks}
+use Rattle.decryption_calls.proofs.Fitted.{refused_message, passed_message, message_refused, message_short, message_answered, MessageChecks}
 use Rattle.decryption_calls.proofs.decrypt.open_message.Goals as goal
 
-pub returns-then-outcome-ne0 : goal.returns-then-outcome-ne0
-returns-then-outcome-ne0 c =
+pub returns-in_err-require : goal.returns-in_err-require
+returns-in_err-require c =
     let checks : MessageChecks c.args.p c.args.sk.now c.args.ct.now c.recover_coins.new.coins
     c.open-fits.new.work c.open-fits.result c.low-at.result c.padded.result
-    c.ending-ended.result.mark c.ending-ended.result.len c.refuse_if-unmarked.result c.refuse_if-outcome.result =
+    c.ending-ended.result.mark c.ending-ended.result.len =
     record {
       opening = record {
         well = c.requires.room.well;
@@ -21,13 +21,13 @@ returns-then-outcome-ne0 c =
       };
       ends = c.ending-ended.ensures.0;
       within = c.ending-ended.ensures.1;
-      unmarked_is = c.refuse_if-unmarked.ensures;
-      status_is = c.refuse_if-outcome.ensures;
     } in
-    message_refused (checks) _ _ c.if-outcome-ne0.true
+    let bad = c.in_err-require.ensures.refused in
+    message_refused checks (λ n. n) _ _ c.from_residual.result _ (refused_message _ _ (bad.0, bad.1 ∙ c.select-refusal.ensures))
+    c.from_residual.ensures.1
 
-pub copy-requires : goal.copy-requires
-copy-requires c = c.requires.coins_long ∙ sym (c.recover_coins.auto.coins ∙ c.requires.room.coins_long)
+pub copy_from_slice-requires : goal.copy_from_slice-requires
+copy_from_slice-requires c = c.requires.coins_long ∙ sym (c.recover_coins.auto.coins ∙ c.requires.room.coins_long)
 
 pub slice_bounds-write_message-end : goal.slice_bounds-write_message-end
 slice_bounds-write_message-end c =
@@ -45,7 +45,7 @@ pub write_message-requires : goal.write_message-requires
 write_message-requires c =
     let checks : MessageChecks c.args.p c.args.sk.now c.args.ct.now c.recover_coins.new.coins
     c.open-fits.new.work c.open-fits.result c.low-at.result c.padded.result
-    c.ending-ended.result.mark c.ending-ended.result.len c.refuse_if-unmarked.result c.refuse_if-outcome.result =
+    c.ending-ended.result.mark c.ending-ended.result.len =
     record {
       opening = record {
         well = c.requires.room.well;
@@ -56,17 +56,15 @@ write_message-requires c =
       };
       ends = c.ending-ended.ensures.0;
       within = c.ending-ended.ensures.1;
-      unmarked_is = c.refuse_if-unmarked.ensures;
-      status_is = c.refuse_if-outcome.ensures;
     } in
-    let short = message_short (checks) c.if-outcome-ne0.false in
+    let short = message_short checks (passed_message c.open-fits.result c.ending-ended.result.mark c.in_ok-require.ensures.ok) in
     simp (length-take, length-drop) (omega (arith, c.requires.message_long))
 
 pub returns : goal.returns
 returns c =
     let checks : MessageChecks c.args.p c.args.sk.now c.args.ct.now c.recover_coins.new.coins
     c.open-fits.new.work c.open-fits.result c.low-at.result c.padded.result
-    c.ending-ended.result.mark c.ending-ended.result.len c.refuse_if-unmarked.result c.refuse_if-outcome.result =
+    c.ending-ended.result.mark c.ending-ended.result.len =
     record {
       opening = record {
         well = c.requires.room.well;
@@ -77,7 +75,6 @@ returns c =
       };
       ends = c.ending-ended.ensures.0;
       within = c.ending-ended.ensures.1;
-      unmarked_is = c.refuse_if-unmarked.ensures;
-      status_is = c.refuse_if-outcome.ensures;
     } in
-    message_answered (checks) _ _ c.if-outcome-ne0.false c.copy.ensures c.write_message.ensures
+    message_answered checks _ _ (passed_message c.open-fits.result c.ending-ended.result.mark c.in_ok-require.ensures.ok)
+    c.copy_from_slice.ensures.after c.write_message.ensures

@@ -1,28 +1,29 @@
--- `decryption_calls::padding::all_zero` meets its contract: after i turns it is known whether the first i bytes are 0.
+-- `decryption_calls::padding::all_zero` meets its contract.
 -- Assumes nothing.
-use mathlib.Core.Bool.{Bool, ◌&&◌}
-use mathlib.Core.Path.{refl, sym, ap, ◌∙◌}
-use native.Mathlib.Numerals.{add-one}
-use native.Mathlib.Omega.{arith}
+use Rattle.std.proofs.Common.{rules, ◌≡◌, ℕ, Bool, true, List, [], ◌∷◌}
+use Rattle.std.proofs.lemmas.Iterator.Consumers.{fold_from_yields_List}
+use Rattle.std.proofs.lemmas.Iterator.{YieldsList-from_slice}
+use Rattle.std.proofs.Math.Bool.{and_assoc, and-true}
+use Rattle.std.specs.List.{fold}
 use lib.Dec.{eqb}
-use lib.ListN.{get_or}
+use mathlib.Core.Path.{◌∙◌, sym}
+use mathlib.Core.Bool.{◌&&◌}
 use Rattle.decryption_calls.specs.Fitting.{all_zero}
-use Rattle.decryption_calls.proofs.Endings.{zero_next}
-use Rattle.keccak.proofs.Loops.{carried_list}
 use Rattle.decryption_calls.proofs.padding.all_zero.Goals as goal
 
-pub loop-i-init : goal.loop-i-init
-unfolding all_zero
-loop-i-init c = record { within = omega arith; is = refl }
+-- Whether it holds before, and the next byte is 0.
+abbrev both : Bool → ℕ → Bool
+both all b = all && eqb b 0
 
-pub loop-i-preserved : goal.loop-i-preserved
-loop-i-preserved c =
-    let xs = c.args.c.now in
-    let i = c.loop-i.i in
-    record {
-      within = omega arith;
-      is = rw add-one (ap (λ (t : Bool). t && eqb (get_or xs i 0) 0) c.loop-i.invariant.is ∙ sym (zero_next xs i (omega arith)));
-    }
+-- What holds before stays, and what fails stays.
+begun : (xs : List ℕ) (all : Bool) → fold both all xs ≡ (all && all_zero xs)
+unfolding all_zero
+begun [] all = sym (and-true all)
+begun (x ∷ xs) all = begun xs (all && eqb x 0) ∙ and_assoc all (eqb x 0) (all_zero xs)
 
 pub returns : goal.returns
-returns c = carried_list c.args.c.now all_zero c.loop-i.invariant (omega arith)
+returns c =
+    fold_from_yields_List _ both true c.fold.result c.fold.ensures.ran
+    (YieldsList-from_slice c.args.c.now (search rules))
+    (λ all x r f h. search rules)
+    ∙ begun c.args.c.now true

@@ -17,11 +17,11 @@ pub loop-i-preserved : goal.loop-i-preserved
 loop-i-preserved c =
     let h = c.loop-i in
     let xs = c.args.c.now in
-    let place = c.select_place-len.ensures in
+    let place = c.select-len.ensures in
     record {
       within = omega arith;
       short = rw place (place_within (eqb (get_or xs h.i 0) 0) h.invariant.short);
-      ends = rw (add-one, c.select_byte-mark.ensures, place) (ending_next xs h.i h.mark h.len (omega arith) h.invariant.ends);
+      ends = rw (add-one, c.select-mark.ensures, place) (ending_next xs h.i h.mark h.len (omega arith) h.invariant.ends);
     }
 
 pub returns : goal.returns

@@ -1,11 +1,8 @@
 -- `decryption_calls::padding::ending` meets its contract: after i turns it is known how the first i bytes end.
 -- Assumes nothing.
-use mathlib.Core.Path.{◌≡◌}
-use Prim.Native.Nat.{◌-◌, ◌≤◌, ℕ}
-use lib.ListN.{length, take}
+use Rattle.std.proofs.Common.{◌≡◌, ◌≤◌, ℕ, List, length, take}
 use Rattle.kindi.specs.Decrypt.{ending}
 use Rattle.decryption_calls.specs.Fitting.{ending_of}
-use mathlib.Core.List.{List}
 use Rattle.decryption_calls.proofs.padding.ending.Given as goal
 
 -- How the first i bytes end: the last that is not 0, and its place.
@@ -16,6 +13,3 @@ pub record Ended (xs : List ℕ) (i mark len : ℕ) : Type 0 where
 
 abbrev pub invariant-loop-i : goal.invariant-loop-i
 invariant-loop-i l = Ended l.c l.i l.mark l.len
-
-abbrev pub decreases-loop-i : goal.decreases-loop-i
-decreases-loop-i l = length l.c - l.i

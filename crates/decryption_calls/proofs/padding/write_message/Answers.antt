@@ -3,16 +3,9 @@
 use mathlib.Core.Path.{ap}
 use mathlib.Core.List.{List, ◌++◌}
 use Prim.Native.Nat.{ℕ}
-use native.Mathlib.Omega.{arith}
-use lib.ListN.{length, drop, length-take}
+use lib.ListN.{length, drop}
 use Rattle.decryption_calls.proofs.Endings.{message_written}
 use Rattle.decryption_calls.proofs.padding.write_message.Goals as goal
-
-pub slice_bounds-copy-end-2 : goal.slice_bounds-copy-end-2
-slice_bounds-copy-end-2 c = simp length-take (omega arith)
-
-pub copy-requires : goal.copy-requires
-copy-requires c = simp length-take (omega arith)
 
 pub returns : goal.returns
 returns c =

@@ -8,21 +8,22 @@ use Rattle.keccak.specs.Keccak.{round, rounds, keccak_f}
 use Rattle.keccak.proofs.Loops.{carried_all}
 use Rattle.keccak.proofs.rounds.keccak_f.Goals as goal
 
-pub loop-i-init : goal.loop-i-init
+pub loop-constant-init : goal.loop-constant-init
 unfolding rounds
-loop-i-init c = record { within = omega arith; is = refl }
+loop-constant-init c = record { within = omega arith; is = refl }
 
-pub loop-i-preserved : goal.loop-i-preserved
+pub loop-constant-preserved : goal.loop-constant-preserved
 unfolding rounds
-loop-i-preserved c =
+loop-constant-preserved c =
+    let table = c.iota_constants-constant-items in
     record {
       within = omega arith;
       is =
           rw add-one
           (c.round-t.ensures
-          ∙ ap₂ round (constant_at c.iota_constants-constants.result c.loop-i.i c.iota_constants-constants.ensures (omega arith)) c.loop-i.invariant.is);
+          ∙ ap₂ round (constant_at table.result c.loop-constant.constant-index table.ensures (omega arith)) c.loop-constant.invariant.is);
     }
 
 pub returns : goal.returns
 unfolding keccak_f
-returns c = carried_all c.loop-i.invariant (omega arith)
+returns c = carried_all c.loop-constant.invariant (omega arith)

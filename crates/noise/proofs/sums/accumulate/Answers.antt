@@ -2,7 +2,7 @@
 -- Assumes nothing.
 use mathlib.Core.Path.{◌≡◌, sym, ap, ◌∙◌}
 use mathlib.Core.List.{List}
-use Prim.Native.Nat.{ℕ, ◌+◌, ◌-◌, ◌^◌, ◌≤◌}
+use Prim.Native.Nat.{ℕ, ◌-◌, ◌^◌, ◌≤◌}
 use native.Mathlib.Nat.{le_trans}
 use native.Mathlib.Omega.{arith}
 use lib.IntN.{pos}
@@ -10,20 +10,18 @@ use lib.ListN.{length, take, drop, length-drop, length-replicate}
 use Rattle.keccak.proofs.Parts.{take_rest}
 use Rattle.ring.specs.Integers.{largest}
 use Rattle.ring.proofs.Sizes.{largest_zeros}
-use Rattle.kindi.specs.Params.{width, padded_length}
+use Rattle.kindi.specs.Params.{width}
 use Rattle.kindi.specs.Streams.{small_in}
-use Rattle.vectors.proofs.Amounts.{width_bound, within, part_length}
+use Rattle.vectors.proofs.Amounts.{width_bound, within}
 use Rattle.noise.proofs.Products.{errors_size, rest-size, largest_table}
 use Rattle.noise.proofs.Bounds.{noise_most, small_sized, error_sized, product_most}
-use Rattle.noise.proofs.Streams.{accumulated}
+use Rattle.noise.proofs.Streams.{mask_length, accumulated}
 use Rattle.noise.proofs.sums.accumulate.Goals as goal
 
 pub add_errors-requires : goal.add_errors-requires
 add_errors-requires c =
-    let masked_long : length (take (c.low-at.result + c.padded.result - c.low-at.result)
-    (drop c.low-at.result c.args.stream.now)) ≡ padded_length c.args.p =
-    part_length c.low-at.result c.padded.result c.args.stream.now
-    (omega (arith, c.low-at.ensures.0, c.padded.ensures.0, c.requires.0.stream_long)) ∙ c.padded.ensures.0 in
+    let masked_long = mask_length c.args.p c.args.stream.now c.mask-mask.result.start c.mask-mask.result.end
+    c.mask-mask.ensures.0 c.mask-mask.ensures.1 c.requires.0.stream_long in
     let pre = c.requires in
     let p = c.args.p in
     let none : largest c.args.acc.now ≡ 0 = ap largest pre.3 ∙ largest_zeros p.n in (
@@ -39,10 +37,8 @@ add_errors-requires c =
 
 pub small-requires : goal.small-requires
 small-requires c =
-    let masked_long : length (take (c.low-at.result + c.padded.result - c.low-at.result)
-    (drop c.low-at.result c.args.stream.now)) ≡ padded_length c.args.p =
-    part_length c.low-at.result c.padded.result c.args.stream.now
-    (omega (arith, c.low-at.ensures.0, c.padded.ensures.0, c.requires.0.stream_long)) ∙ c.padded.ensures.0 in
+    let masked_long = mask_length c.args.p c.args.stream.now c.mask-mask.result.start c.mask-mask.result.end
+    c.mask-mask.ensures.0 c.mask-mask.ensures.1 c.requires.0.stream_long in
     let pre = c.requires in
     let p = c.args.p in
     let W = pre.0.well in
@@ -62,8 +58,7 @@ subtract_from-requires c =
     let a = c.args in
     let p = a.p in
     let W = c.requires.0.well in
-    let mid : List ℕ = take (c.low-at.result + c.padded.result - c.low-at.result)
-    (drop c.low-at.result a.stream.now) in
+    let mid : List ℕ = take (c.mask-mask.result.end - c.mask-mask.result.start) (drop c.mask-mask.result.start a.stream.now) in
     errors_size p.l p.n (noise_most p) p.p (small_in p mid) (small_in p a.secrets.now) c.requires.3 W.few (product_most p W)
     (error_sized p W mid) (small_sized p W a.secrets.now) c.add_errors.ensures in
     let last_small : largest c.small.new.dst ≤ 64 =
@@ -83,8 +78,7 @@ add_keys-requires c =
     let a = c.args in
     let p = a.p in
     let W = c.requires.0.well in
-    let mid : List ℕ = take (c.low-at.result + c.padded.result - c.low-at.result)
-    (drop c.low-at.result a.stream.now) in
+    let mid : List ℕ = take (c.mask-mask.result.end - c.mask-mask.result.start) (drop c.mask-mask.result.start a.stream.now) in
     errors_size p.l p.n (noise_most p) p.p (small_in p mid) (small_in p a.secrets.now) c.requires.3 W.few (product_most p W)
     (error_sized p W mid) (small_sized p W a.secrets.now) c.add_errors.ensures in
     let last_small : largest c.small.new.dst ≤ 64 =
@@ -94,8 +88,7 @@ add_keys-requires c =
     let pre = c.requires in
     let p = c.args.p in
     let X = c.args.stream.now in
-    let ea = c.low-at.ensures.0 in
-    let ek = c.padded.ensures.0 in (
+    let ee = c.mask-mask.ensures.1 in (
       record {
         well = pre.0.well;
         first = c.small.auto.dst ∙ c.add_errors.auto.x ∙ pre.1;
@@ -115,16 +108,16 @@ add_keys-requires c =
         coins_long = pre.0.coins_long;
         secrets_long = pre.0.secrets_long;
         low_there = omega (arith, pre.0.stream_long);
-        high_there = rw (take_rest _ X, length-drop _ X) (omega (arith, ea, ek, pre.0.stream_long));
-        rest_there = rw (take_rest _ X, length-drop _ X) (omega (arith, ea, ek, c.high.ensures.0, pre.0.stream_long));
+        high_there = rw (take_rest _ X, length-drop _ X) (omega (arith, ee, pre.0.stream_long));
+        rest_there = rw (take_rest _ X, length-drop _ X) (omega (arith, ee, c.high.ensures.0, pre.0.stream_long));
       },
     )
 
 pub returns : goal.returns
 returns c =
     let a = c.args in
-    accumulated a.p a.b.now a.coins.now a.secrets.now a.stream.now c.low-at.result
-    c.padded.result c.high.result
-    c.low-at.ensures.0 c.padded.ensures.0 c.high.ensures.0 c.requires.3
+    accumulated a.p a.b.now a.coins.now a.secrets.now a.stream.now c.mask-mask.result.start
+    c.mask-mask.result.end c.high.result
+    c.mask-mask.ensures.0 c.mask-mask.ensures.1 c.high.ensures.0 c.requires.3
     c.add_errors.ensures c.small.ensures c.subtract_from.ensures
     c.add_keys.ensures

@@ -1,16 +1,15 @@
--- `noise_calls::choose::choose_fitting` meets its contract: the checks of the key and of clear coins give the answer's number
--- (`Fitted`). Assumes nothing.
-use Rattle.noise_calls.proofs.Fitted.{choose_room, key_refused, none_clear, some-clear}
+-- `noise_calls::choose::choose_fitting` meets its contract: the check of the key and the search give the answer (`Fitted`).
+-- Assumes nothing.
+use Rattle.noise_calls.proofs.Fitted.{choose_room, key_refused, chosen}
 use Rattle.noise_calls.proofs.choose.choose_fitting.Goals as goal
 
-pub returns-then-other_key-ne0 : goal.returns-then-other_key-ne0
-returns-then-other_key-ne0 c = search key_refused
+pub returns-in_err-require : goal.returns-in_err-require
+returns-in_err-require c =
+    key_refused _ _ _ _ _ c.agree.ensures (λ n. n) c.from_residual.result _ c.in_err-require.ensures.refused c.from_residual.ensures.1
 
-pub search-found-requires : goal.search-found-requires
-search-found-requires c = search choose_room
-
-pub returns-then-none-ne0 : goal.returns-then-none-ne0
-returns-then-none-ne0 c = search none_clear
+pub search-requires : goal.search-requires
+search-requires c = search choose_room
 
 pub returns : goal.returns
-returns c = search some-clear
+returns c =
+    chosen _ _ _ _ _ c.agree.ensures c.in_ok-require.ensures.ok c.search.result c.ok_or.result c.search.ensures c.ok_or.ensures.value

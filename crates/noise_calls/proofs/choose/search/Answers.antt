@@ -2,10 +2,10 @@
 -- the stream of γ is still there.
 -- Assumes nothing.
 use mathlib.Core.Path.{refl, ◌∙◌}
-use Prim.Native.Nat.{◌+◌, ◌≤◌}
+use Prim.Native.Nat.{◌+◌, ◌*◌, ◌≤◌}
 use native.Mathlib.Omega.{arith}
 use lib.ListN.{length}
-use Rattle.noise_calls.proofs.Places.{search_starts, search_goes_on, search_ends, search_count, coins_there, search_room}
+use Rattle.noise_calls.proofs.Places.{search_starts, search_goes_on, search_ends, search_count, search_done, coins_there, search_room}
 use Rattle.noise_calls.proofs.choose.search.Goals as goal
 
 pub nonzero_div-count : goal.nonzero_div-count
@@ -22,45 +22,39 @@ overflow_cast-i c = omega (arith, c.loop-i.invariant.so_far.within, search_count
 
 pub overflow_add-at : goal.overflow_add-at
 overflow_add-at c =
-    let there : c.loop-i.at + c.args.p.coins ≤ length c.args.list.now =
+    let there : c.loop-i.i * c.args.p.coins + c.args.p.coins ≤ length c.args.list.now =
     coins_there c.loop-i.invariant.so_far c.loop-i-test.true in
     omega (arith, there)
 
 pub slice_bounds-measure-count : goal.slice_bounds-measure-count
 slice_bounds-measure-count c =
-    let there : c.loop-i.at + c.args.p.coins ≤ length c.args.list.now =
+    let there : c.loop-i.i * c.args.p.coins + c.args.p.coins ≤ length c.args.list.now =
     coins_there c.loop-i.invariant.so_far c.loop-i-test.true in
     omega (arith, there)
 
 pub slice_bounds-measure-start : goal.slice_bounds-measure-start
 slice_bounds-measure-start c =
-    let there : c.loop-i.at + c.args.p.coins ≤ length c.args.list.now =
+    let there : c.loop-i.i * c.args.p.coins + c.args.p.coins ≤ length c.args.list.now =
     coins_there c.loop-i.invariant.so_far c.loop-i-test.true in
     omega (arith, there)
 
 pub slice_bounds-measure-end : goal.slice_bounds-measure-end
 slice_bounds-measure-end c =
-    let there : c.loop-i.at + c.args.p.coins ≤ length c.args.list.now =
+    let there : c.loop-i.i * c.args.p.coins + c.args.p.coins ≤ length c.args.list.now =
     coins_there c.loop-i.invariant.so_far c.loop-i-test.true in
     omega (arith, there)
 
 pub measure-measured-requires : goal.measure-measured-requires
 measure-measured-requires c =
-    let there : c.loop-i.at + c.args.p.coins ≤ length c.args.list.now =
+    let there : c.loop-i.i * c.args.p.coins + c.args.p.coins ≤ length c.args.list.now =
     coins_there c.loop-i.invariant.so_far c.loop-i-test.true in
     search_room _ c.loop-i.invariant.room there c.loop-i.invariant.long c.loop-i.invariant.kept
 
-pub overflow_add-at-in-loop-i : goal.overflow_add-at-in-loop-i
-overflow_add-at-in-loop-i c =
-    let there : c.loop-i.at + c.args.p.coins ≤ length c.args.list.now =
+pub overflow_mul-at : goal.overflow_mul-at
+overflow_mul-at c =
+    let there : c.loop-i.i * c.args.p.coins + c.args.p.coins ≤ length c.args.list.now =
     coins_there c.loop-i.invariant.so_far c.loop-i-test.true in
     omega (arith, there)
-
-pub overflow_add-i : goal.overflow_add-i
-overflow_add-i c = omega (arith, c.loop-i.invariant.so_far.within, search_count c.loop-i.invariant.room)
-
-pub loop-i-smaller : goal.loop-i-smaller
-loop-i-smaller c = omega (arith, c.loop-i-test.true)
 
 pub loop-i-preserved : goal.loop-i-preserved
 loop-i-preserved c =
@@ -69,11 +63,8 @@ loop-i-preserved c =
       room = h.room;
       long = c.measure-measured.auto.work ∙ h.long;
       kept = c.measure-measured.ensures.2;
-      so_far = search_goes_on h.so_far c.loop-i-test.true c.measure-measured.ensures.0 c.first_place-place.ensures;
+      so_far = search_goes_on h.so_far c.loop-i-test.true c.measure-measured.ensures.0 c.select-place.ensures;
     }
 
-pub shape_of-work : goal.shape_of-work
-shape_of-work c = c.loop-i.invariant.long
-
 pub returns : goal.returns
-returns c = search search_ends
+returns c = rw c.then_some.ensures (search_done c.loop-i.found (search_ends c.loop-i.invariant.so_far (omega arith)))

@@ -1,13 +1,16 @@
 -- `noise_calls::measure::measure_fitting` meets its contract: the check of the key gives the answer's number (`Fitted`).
 -- Assumes nothing.
+use Rattle.noise_calls.specs.Fitting.{clear_flag, largest_value}
 use Rattle.noise_calls.proofs.Fitted.{measure_room, noise_refused, noise_answered}
 use Rattle.noise_calls.proofs.measure.measure_fitting.Goals as goal
 
-pub returns-then-other_key-ne0 : goal.returns-then-other_key-ne0
-returns-then-other_key-ne0 c = search noise_refused
+pub returns-in_err-require : goal.returns-in_err-require
+returns-in_err-require c =
+    noise_refused _ _ _ _ _ c.agree.ensures clear_flag largest_value c.from_residual.result _ c.in_err-require.ensures.refused
+    c.from_residual.ensures.1
 
-pub measure-measured-requires : goal.measure-measured-requires
-measure-measured-requires c = search measure_room
+pub measure-requires : goal.measure-requires
+measure-requires c = search measure_room
 
 pub returns : goal.returns
-returns c = search noise_answered
+returns c = noise_answered _ _ _ _ _ c.agree.ensures c.in_ok-require.ensures.ok c.measure.ensures.0 c.measure.ensures.1

@@ -3,13 +3,9 @@
 use mathlib.Core.Path.{ap₂}
 use Prim.Native.Nat.{◌+◌, ◌*◌, ◌/◌, ◌^◌}
 use native.Mathlib.Omega.{arith}
-use lib.Pow.{pow_pos}
-use Rattle.bits.proofs.Words.{one_at, mask_keeps}
+use Rattle.bits.proofs.Words.{mask_keeps}
 use Rattle.packing.proofs.Spreading.{pair_moved, pair_below}
 use Rattle.packing.proofs.reader.pairs.Goals as goal
-
-pub overflow_sub-mask : goal.overflow_sub-mask
-overflow_sub-mask c = rw (one_at 64 (2 * c.args.w) (omega arith)) (pow_pos (2 * c.args.w))
 
 pub overflow_mul-result : goal.overflow_mul-result
 overflow_mul-result c =

@@ -1,21 +1,11 @@
 -- `packing::reader::singles` meets its contract: the masks keep a digit of either half, and the factor moves both second ones.
 -- Assumes nothing.
 use mathlib.Core.Path.{ap₂, ◌∙◌}
-use Prim.Native.Nat.{◌+◌, ◌/◌, ◌%◌, ◌^◌, ◌≤◌}
+use Prim.Native.Nat.{◌+◌, ◌/◌, ◌%◌, ◌^◌}
 use native.Mathlib.Omega.{arith}
-use lib.Pow.{pow_pos, pow_mono}
-use Rattle.bits.proofs.Words.{one_at, digit_below}
+use Rattle.bits.proofs.Words.{digit_below}
 use Rattle.packing.proofs.Spreading.{both_kept, second_moved}
 use Rattle.packing.proofs.reader.singles.Goals as goal
-
-pub overflow_sub-masks : goal.overflow_sub-masks
-overflow_sub-masks c = rw (one_at 64 c.args.w (omega arith)) (pow_pos c.args.w)
-
-pub overflow_mul-masks : goal.overflow_mul-masks
-overflow_mul-masks c =
-    let narrow : c.args.w ≤ 16 = omega arith in
-    let most : 2 ^ c.args.w ≤ 2 ^ 16 = pow_mono narrow in
-    rw (one_at 64 c.args.w (omega arith)) (omega (arith, most))
 
 pub overflow_mul-result : goal.overflow_mul-result
 overflow_mul-result c =

@@ -1,17 +1,15 @@
 -- `product::halves::row_difference` meets its contract: after k turns the first k entries are written.
 -- Assumes nothing.
-use mathlib.Core.Path.{◌≡◌}
-use Prim.Native.Nat.{◌+◌, ◌-◌, ◌≤◌}
-use lib.ListN.{length}
-use Rattle.bits.proofs.Filling.{filled}
+use Prim.Native.Nat.{ℕ, ◌+◌}
+use mathlib.Core.List.{List}
+use Rattle.bits.proofs.Filling.{Filling}
 use Rattle.ring.specs.Integers.{residue}
 use Rattle.ring.specs.Poly.{minus, of_nats}
 use Rattle.product.proofs.halves.row_difference.Given as goal
 
-abbrev pub invariant-loop-k : goal.invariant-loop-k
-invariant-loop-k l =
-    (l.k ≤ length l.initial.dst) × (length l.dst ≡ length l.initial.dst) ×
-    (l.dst ≡ filled l.k (λ j. residue 65536 (minus (λ i. of_nats l.row (l.a + i)) (λ i. of_nats l.row (l.b + i)) j)) l.initial.dst)
+-- The entries from place a on, less those from place b on.
+abbrev pub differences : List ℕ → ℕ → ℕ → ℕ → ℕ
+differences row a b j = residue 65536 (minus (λ i. of_nats row (a + i)) (λ i. of_nats row (b + i)) j)
 
-abbrev pub decreases-loop-k : goal.decreases-loop-k
-decreases-loop-k l = length l.initial.dst - l.k
+abbrev pub invariant-loop-k : goal.invariant-loop-k
+invariant-loop-k l = Filling (differences l.row l.a l.b) l.initial.dst l.k l.dst

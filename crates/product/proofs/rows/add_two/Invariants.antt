@@ -1,10 +1,9 @@
 -- `product::rows::add_two` meets its contract: after k turns the first k coefficients have their terms.
 -- Assumes nothing.
-use mathlib.Core.Path.{◌≡◌}
 use mathlib.Core.List.{List}
-use Prim.Native.Nat.{ℕ, ◌+◌, ◌-◌, ◌≤◌}
-use lib.ListN.{length, get_or}
-use Rattle.bits.proofs.Filling.{filled}
+use Prim.Native.Nat.{ℕ, ◌+◌}
+use lib.ListN.{get_or}
+use Rattle.bits.proofs.Filling.{Filling}
 use Rattle.ring.specs.Terms.{add_term}
 use Rattle.product.proofs.rows.add_two.Given as goal
 
@@ -13,8 +12,4 @@ abbrev pub columns : List ℕ → List ℕ → ℕ → ℕ → ℕ → ℕ
 columns acc row a b k = add_term (add_term (get_or acc k 0) a (get_or row (k + 1) 0)) b (get_or row k 0)
 
 abbrev pub invariant-loop-k : goal.invariant-loop-k
-invariant-loop-k l =
-    (l.k ≤ length l.initial.acc) × (length l.acc ≡ length l.initial.acc) × (l.acc ≡ filled l.k (columns l.initial.acc l.row l.a l.b) l.initial.acc)
-
-abbrev pub decreases-loop-k : goal.decreases-loop-k
-decreases-loop-k l = length l.initial.acc - l.k
+invariant-loop-k l = Filling (columns l.initial.acc l.row l.a l.b) l.initial.acc l.k l.acc

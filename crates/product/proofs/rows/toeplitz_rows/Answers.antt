@@ -1,68 +1,48 @@
--- `product::rows::toeplitz_rows` meets its contract: after i entries of v the first i columns are added.
+-- `product::rows::toeplitz_rows` meets its contract: before entry i of v the columns before i are added.
 -- Assumes nothing.
-use mathlib.Core.Path.{◌≡◌, refl, ap, ◌∙◌}
-use Prim.Native.Nat.{ℕ, ◌+◌, ◌*◌, ◌-◌}
+use mathlib.Core.Path.{◌∙◌}
+use Prim.Native.Nat.{◌+◌, ◌*◌, ◌-◌, ◌/◌}
 use native.Mathlib.Omega.{arith}
 use lib.ListN.{length}
-use Rattle.bits.specs.Bits.{Below}
-use Rattle.ring.specs.Poly.{of_nats, residues}
-use Rattle.product.proofs.Columns.{columns, columns_none, columns-all, window_long, column_more, columns_more}
+use Rattle.product.proofs.Columns.{Paired, paired_begun, paired_more, paired_as, paired_all, paired_last, window_long}
+use Rattle.product.proofs.rows.toeplitz_rows.Goals.{else-loop-i-test, then-loop-i-test+else-i-end-i-gt2}
 use Rattle.product.proofs.rows.toeplitz_rows.Goals as goal
 
 pub loop-i-init : goal.loop-i-init
-loop-i-init c =
-    let a = c.args in
-    let words : Below 65536 a.acc.now = λ i. (c.type_inv.acc i).fits in
-    (omega arith, refl, columns_none a.acc.now (of_nats a.row.now) (of_nats a.v.now) words)
+loop-i-init c = paired_begun (λ i. (c.type_inv.acc i).fits)
 
 pub add_two-requires : goal.add_two-requires
 add_two-requires c =
-    let h = c.loop-i in
-    let a = c.args in
-    let n = length a.acc.now in
-    window_long (n - 1 - h.i) (2 * n - h.i - (n - 1 - h.i)) a.row.now (omega arith) ∙ omega arith
+    let i = c.loop-i.i in
+    let n = length c.args.acc.now in
+    window_long (n - 1 - i) (2 * n - i - (n - 1 - i)) c.args.row.now (omega arith) ∙ omega arith
+
+pub bounds-v-i-in-loop-i : goal.bounds-v-i-in-loop-i
+bounds-v-i-in-loop-i c = omega arith
 
 pub loop-i-preserved : goal.loop-i-preserved
 loop-i-preserved c =
-    let h = c.loop-i in
-    let a = c.args in (
-      omega arith,
-      c.add_two.auto.acc ∙ h.invariant.1,
-      c.add_two.ensures
-          ∙ rw h.invariant.1
-          (columns_more (length a.acc.now) (of_nats a.acc.now) a.row.now a.v.now h.acc h.i (omega arith)
-          h.invariant.2),
-    )
+    paired_more c.loop-i.invariant (omega arith) c.add_two.auto.acc c.add_two.ensures
 
 pub add_column-requires : goal.add_column-requires
-add_column-requires c =
-    let h = c.loop-i in
+add_column-requires c = window_long 1 (length c.args.acc.now + 1 - 1) c.args.row.now (omega arith) ∙ omega arith
+
+pub returns-then-n-eq1 : goal.returns-then-n-eq1
+returns-then-n-eq1 c =
     let a = c.args in
-    let n = length a.acc.now in
-    window_long (n - h.i) (2 * n - h.i - (n - h.i)) a.row.now (omega arith) ∙ omega arith
+    let pairs : Paired a.acc.now a.row.now a.v.now (length a.acc.now / 2 * 2) c.loop-i-test.acc = elim c.loop-i-test.branch [
+      | else-loop-i-test w ↦ paired_as c.loop-i.invariant (omega arith) w.acc-is
+      | then-loop-i-test+else-i-end-i-gt2 w ↦
+          paired_as (paired_more c.loop-i.invariant (omega arith) w.add_two.auto.acc w.add_two.ensures) (omega arith) w.acc-is
+    ] in
+    paired_last pairs (omega arith) c.add_column.ensures
 
-pub shape_of-acc-then-i-n : goal.shape_of-acc-then-i-n
-shape_of-acc-then-i-n c = c.add_column.auto.acc ∙ c.loop-i.invariant.1
-
-pub returns-then-i-n : goal.returns-then-i-n
-returns-then-i-n c =
-    let h = c.loop-i in
+pub returns-else-n-eq1 : goal.returns-else-n-eq1
+returns-else-n-eq1 c =
     let a = c.args in
-    let n = length a.acc.now in
-    let all : h.i + 1 ≡ n = omega arith in
-    c.add_column.ensures
-    ∙ rw h.invariant.1 (column_more n (of_nats a.acc.now) a.row.now a.v.now h.acc h.i (omega arith) h.invariant.2)
-    ∙ ap (λ (m : ℕ). residues 65536 n (columns n (of_nats a.acc.now) (of_nats a.row.now) (of_nats a.v.now) m)) all
-    ∙ columns-all a.acc.now a.row.now a.v.now
-
-pub shape_of-acc-else-i-n : goal.shape_of-acc-else-i-n
-shape_of-acc-else-i-n c = c.loop-i.invariant.1
-
-pub returns-else-i-n : goal.returns-else-i-n
-returns-else-i-n c =
-    let h = c.loop-i in
-    let a = c.args in
-    let n = length a.acc.now in
-    let all : h.i ≡ n = omega arith in
-    h.invariant.2 ∙ ap (λ (m : ℕ). residues 65536 n (columns n (of_nats a.acc.now) (of_nats a.row.now) (of_nats a.v.now) m)) all
-    ∙ columns-all a.acc.now a.row.now a.v.now
+    let pairs : Paired a.acc.now a.row.now a.v.now (length a.acc.now / 2 * 2) c.loop-i-test.acc = elim c.loop-i-test.branch [
+      | else-loop-i-test w ↦ paired_as c.loop-i.invariant (omega arith) w.acc-is
+      | then-loop-i-test+else-i-end-i-gt2 w ↦
+          paired_as (paired_more c.loop-i.invariant (omega arith) w.add_two.auto.acc w.add_two.ensures) (omega arith) w.acc-is
+    ] in
+    paired_all pairs (omega arith)

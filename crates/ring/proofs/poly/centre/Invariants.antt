@@ -1,7 +1,7 @@
 -- `ring::poly::centre` meets its contract: after k turns the first k values are centred.
 -- Assumes nothing.
-use Prim.Native.Nat.{ℕ, ◌-◌}
-use lib.ListN.{length, get_or}
+use Prim.Native.Nat.{ℕ}
+use lib.ListN.{get_or}
 use Rattle.ring.specs.Integers.{residue, centred}
 use mathlib.Core.List.{List}
 use Rattle.bits.proofs.Filling.{Filling}
@@ -11,8 +11,5 @@ use Rattle.ring.proofs.poly.centre.Given as goal
 abbrev pub centres : List ℕ → ℕ → ℕ → ℕ
 centres xs p j = residue 65536 (centred p (get_or xs j 0))
 
-abbrev pub invariant-loop-k : goal.invariant-loop-k
-invariant-loop-k l = Filling (centres l.initial.xs l.p) l.initial.xs l.k l.xs
-
-abbrev pub decreases-loop-k : goal.decreases-loop-k
-decreases-loop-k l = length l.initial.xs - l.k
+abbrev pub invariant-loop-x : goal.invariant-loop-x
+invariant-loop-x l = Filling (centres l.initial.xs l.p) l.initial.xs l.x-index l.xs

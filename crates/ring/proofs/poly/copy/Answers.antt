@@ -2,11 +2,8 @@
 -- Assumes nothing.
 use mathlib.Core.Path.{refl, ◌∙◌}
 use native.Mathlib.Omega.{arith}
-use Rattle.bits.proofs.Filling.{tabulate_entries, filling_begun, filling_more, filling_all}
+use Rattle.bits.proofs.Filling.{tabulate_entries, filling_more, filling_all}
 use Rattle.ring.proofs.poly.copy.Goals as goal
-
-pub loop-k-init : goal.loop-k-init
-loop-k-init c = filling_begun
 
 pub loop-k-preserved : goal.loop-k-preserved
 loop-k-preserved c = filling_more 0 c.loop-k.invariant (omega arith) refl

@@ -4,18 +4,11 @@ use mathlib.Core.Path.{ap, ◌∙◌}
 use native.Mathlib.Omega.{arith}
 use lib.IntN.{neg_ℤ, +ℤ_idl}
 use Rattle.ring.specs.Integers.{residue}
-use Rattle.ring.specs.Poly.{of_nats, residues}
-use Rattle.bits.proofs.Filling.{filling_begun, filling_more, filling_all}
+use Rattle.ring.specs.Poly.{of_nats}
+use Rattle.bits.proofs.Filling.{filling_more}
 use Rattle.ring.proofs.poly.negate.Goals as goal
-
-pub loop-k-init : goal.loop-k-init
-loop-k-init c = filling_begun
 
 pub loop-k-preserved : goal.loop-k-preserved
 loop-k-preserved c =
     filling_more 0 c.loop-k.invariant (omega arith)
     (c.difference.ensures ∙ ap (residue 65536) (+ℤ_idl (neg_ℤ (of_nats c.args.src.now c.loop-k.k))))
-
-pub returns : goal.returns
-unfolding residues
-returns c = filling_all c.loop-k.invariant (omega arith) (omega arith)

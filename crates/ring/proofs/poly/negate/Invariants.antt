@@ -1,8 +1,7 @@
 -- `ring::poly::negate` meets its contract: after k turns the first k coefficients are negated.
 -- Assumes nothing.
-use Prim.Native.Nat.{◌-◌, ℕ}
+use Prim.Native.Nat.{ℕ}
 use lib.IntN.{neg_ℤ}
-use lib.ListN.{length}
 use Rattle.ring.specs.Integers.{residue}
 use Rattle.ring.specs.Poly.{of_nats}
 use mathlib.Core.List.{List}
@@ -15,6 +14,3 @@ negatives src j = residue 65536 (neg_ℤ (of_nats src j))
 
 abbrev pub invariant-loop-k : goal.invariant-loop-k
 invariant-loop-k l = Filling (negatives l.src) l.initial.dst l.k l.dst
-
-abbrev pub decreases-loop-k : goal.decreases-loop-k
-decreases-loop-k l = length l.initial.dst - l.k

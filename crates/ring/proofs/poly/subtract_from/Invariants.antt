@@ -1,7 +1,7 @@
 -- `ring::poly::subtract_from` meets its contract: after k turns the first k values are taken from c.
 -- Assumes nothing.
-use Prim.Native.Nat.{ℕ, ◌-◌}
-use lib.ListN.{length, get_or}
+use Prim.Native.Nat.{ℕ}
+use lib.ListN.{get_or}
 use lib.IntN.{pos, ◌-ℤ◌}
 use Rattle.ring.specs.Integers.{residue}
 use mathlib.Core.List.{List}
@@ -12,8 +12,5 @@ use Rattle.ring.proofs.poly.subtract_from.Given as goal
 abbrev pub taken : ℕ → List ℕ → ℕ → ℕ
 taken c xs j = residue 65536 (pos c -ℤ pos (get_or xs j 0))
 
-abbrev pub invariant-loop-k : goal.invariant-loop-k
-invariant-loop-k l = Filling (taken l.c l.initial.xs) l.initial.xs l.k l.xs
-
-abbrev pub decreases-loop-k : goal.decreases-loop-k
-decreases-loop-k l = length l.initial.xs - l.k
+abbrev pub invariant-loop-x : goal.invariant-loop-x
+invariant-loop-x l = Filling (taken l.c l.initial.xs) l.initial.xs l.x-index l.xs

@@ -1,33 +1,34 @@
--- `vectors::strings::same_bytes` meets its contract: after i turns it is known whether the first i bytes are the same.
+-- `vectors::strings::same_bytes` meets its contract.
 -- Assumes nothing.
-use mathlib.Core.Bool.{Bool, ◌&&◌}
-use mathlib.Core.Path.{refl, ap, ap₂, ◌∙◌}
-use native.Mathlib.Numerals.{add-one}
-use native.Mathlib.Omega.{arith}
+use Rattle.std.proofs.Common.{rules, ◌≡◌, length, ℕ, Bool, true, List, [], ◌∷◌}
+use Rattle.std.proofs.lemmas.Iterator.Consumers.{fold_from_yields_List}
+use Rattle.std.proofs.lemmas.Iterator.{YieldsList-from_slice, YieldsList-from_zip}
+use Rattle.std.proofs.Math.Bool.{and_assoc, and-true}
+use Rattle.std.specs.List.{fold, zip}
 use lib.Dec.{eqb}
-use lib.ListN.{get_or}
-use lib.Seq.{take_all}
+use mathlib.Core.Path.{◌∙◌, sym}
+use native.Mathlib.Nat.{suc_inj}
+use native.Mathlib.Omega.{arith}
+use mathlib.Core.Bool.{◌&&◌}
 use Rattle.kindi.specs.Answers.{same}
-use Rattle.kindi.proofs.Lists.{same_more}
 use Rattle.vectors.proofs.strings.same_bytes.Goals as goal
 
-pub loop-i-init : goal.loop-i-init
-unfolding same
-loop-i-init c = record { within = omega arith; is = refl }
+-- Whether it holds before, and the next two bytes are equal.
+abbrev both : Bool → ℕ × ℕ → Bool
+both all p = all && eqb p.0 p.1
 
-pub loop-i-preserved : goal.loop-i-preserved
-loop-i-preserved c =
-    let h = c.loop-i in
-    let xs = c.args.a.now in
-    let ys = c.args.b.now in
-    record {
-      within = omega arith;
-      is = rw add-one (ap (λ (t : Bool). t && eqb (get_or xs h.i 0) (get_or ys h.i 0)) h.invariant.is
-          ∙ same_more xs ys h.i (omega arith) c.requires);
-    }
+-- What holds before stays, and what fails stays.
+begun : (xs ys : List ℕ) (all : Bool) → length xs ≡ length ys
+    → fold both all (zip xs ys) ≡ (all && same xs ys)
+unfolding same
+begun [] [] all e = sym (and-true all)
+begun [] (y ∷ ys) all e = absurd (omega arith)
+begun (x ∷ xs) [] all e = absurd (omega arith)
+begun (x ∷ xs) (y ∷ ys) all e = begun xs ys (all && eqb x y) (suc_inj e) ∙ and_assoc all (eqb x y) (same xs ys)
 
 pub returns : goal.returns
 returns c =
-    let h = c.loop-i in
-    let a = c.args in
-    h.invariant.is ∙ ap₂ same (take_all h.i a.a.now (omega arith)) (take_all h.i a.b.now (omega (arith, c.requires)))
+    fold_from_yields_List _ both true c.fold.result c.fold.ensures.ran
+    (YieldsList-from_zip (YieldsList-from_slice c.args.a.now (search rules)) (YieldsList-from_slice c.args.b.now (search rules)))
+    (λ all x r f h. search rules)
+    ∙ begun c.args.a.now c.args.b.now true c.requires

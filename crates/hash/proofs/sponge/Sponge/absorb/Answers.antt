@@ -1,37 +1,38 @@
--- `hash::sponge::Sponge::absorb` meets its contract: after each turn the sponge has absorbed what stands before `done`.
+-- `hash::sponge::Sponge::absorb` meets its contract: with the rest of the input the sponge will have absorbed all of it.
 -- Assumes nothing.
-use mathlib.Core.Path.{refl, ap, ◌∙◌}
+use mathlib.Core.Path.{sym, ap₂, ◌∙◌}
+use mathlib.Core.List.{◌++◌}
+use Prim.Native.Nat.{◌<◌}
 use native.Mathlib.Omega.{arith}
-use lib.ListN.{length-take, length-drop}
-use lib.Seq.{take_all}
-use Rattle.hash.specs.Stream.{absorbed}
-use Rattle.hash.proofs.Steps.{absorbing_ready, absorbing_more}
+use lib.ListN.{length, take-append-drop}
+use Rattle.std.proofs.lemmas.Bool.Decides.{nat_tests}
+use Rattle.hash.proofs.Steps.{is_ready_as, absorbing_more, absorbing_all}
 use Rattle.hash.proofs.sponge.Sponge.absorb.Goals as goal
-
-pub loop-done-init : goal.loop-done-init
-unfolding absorbed
-loop-done-init c = record { begun = c.requires; within = omega arith; is = refl }
 
 pub overflow_sub-t : goal.overflow_sub-t
 overflow_sub-t c =
-    let t = absorbing_ready c.loop-done.invariant c.ready-t.ensures in
+    let t = is_ready_as _ _ c.loop-rest.invariant.sound c.ready-t.ensures in
     omega (arith, t)
 
-pub absorb_part-filled-requires : goal.absorb_part-filled-requires
-absorb_part-filled-requires c =
-    let t = absorbing_ready c.loop-done.invariant c.ready-t.ensures in
-    simp (length-take, length-drop) (omega (arith, t, c.least-k.ensures))
-
-pub loop-done-smaller : goal.loop-done-smaller
-loop-done-smaller c =
-    let t = absorbing_ready c.loop-done.invariant c.ready-t.ensures in
+pub absorb_part-s-requires : goal.absorb_part-s-requires
+absorb_part-s-requires c =
+    let t = is_ready_as _ _ c.loop-rest.invariant.sound c.ready-t.ensures in
     omega (arith, t)
 
-pub loop-done-preserved : goal.loop-done-preserved
-loop-done-preserved c =
-    let t = absorbing_ready c.loop-done.invariant c.ready-t.ensures in
-    absorbing_more c.loop-done.invariant c.ready-t.ensures c.least-k.result (omega (arith, t.room)) (omega arith) c.absorb_part-filled.ensures
+pub loop-rest-smaller : goal.loop-rest-smaller
+loop-rest-smaller c =
+    let t = is_ready_as _ _ c.loop-rest.invariant.sound c.ready-t.ensures in
+    let some : 0 < length c.loop-rest.rest.now = grind (arith, nat_tests) in
+    omega (arith, t)
+
+pub loop-rest-preserved : goal.loop-rest-preserved
+loop-rest-preserved c =
+    let t = is_ready_as _ _ c.loop-rest.invariant.sound c.ready-t.ensures in
+    let rest = c.loop-rest.rest.now in
+    let some : 0 < length rest = grind (arith, nat_tests) in
+    let split = c.split_at.ensures in
+    absorbing_more c.loop-rest.invariant _ _ c.ready-t.ensures (omega (arith, t))
+    (sym (ap₂ ◌++◌ split.front split.back ∙ take-append-drop c.min.result rest)) c.absorb_part-s.ensures
 
 pub returns : goal.returns
-returns c =
-    c.loop-done.invariant.is ∙ ap (absorbed c.args.self) (take_all c.loop-done.done c.args.input.now (omega arith))
+returns c = absorbing_all c.loop-rest.invariant (grind (arith, nat_tests))

@@ -1,12 +1,11 @@
--- `hash::sponge::Sponge::absorb` meets its contract: after each turn the sponge has absorbed what stands before `done`.
+-- `hash::sponge::Sponge::absorb` meets its contract: with the rest of the input the sponge will have absorbed all of it.
 -- Assumes nothing.
-use Prim.Native.Nat.{◌-◌}
 use lib.ListN.{length}
 use Rattle.hash.proofs.Steps.{Absorbing}
 use Rattle.hash.proofs.sponge.Sponge.absorb.Given as goal
 
-abbrev pub invariant-loop-done : goal.invariant-loop-done
-invariant-loop-done l = Absorbing l.initial.s l.input l.done l.s
+abbrev pub invariant-loop-rest : goal.invariant-loop-rest
+invariant-loop-rest l = Absorbing l.initial.s l.initial.rest l.s l.rest
 
-abbrev pub decreases-loop-done : goal.decreases-loop-done
-decreases-loop-done l = length l.input - l.done
+abbrev pub decreases-loop-rest : goal.decreases-loop-rest
+decreases-loop-rest l = length l.rest

@@ -1,16 +1,10 @@
 -- `hash::sponge::Sponge::absorb_part` meets its contract: the part is added into the string at the sponge's place.
 -- Assumes nothing.
 use mathlib.Core.Path.{◌≡◌}
-use native.Mathlib.Omega.{arith}
 use borrow.Author.Rules.{rules}
 use lib.ListN.{length}
 use Rattle.hash.proofs.Steps.{part-absorbed}
 use Rattle.hash.proofs.sponge.Sponge.absorb_part.Goals as goal
-
-pub slice_bounds-bytes-end : goal.slice_bounds-bytes-end
-slice_bounds-bytes-end c =
-    let long : length c.args.self.bytes ≡ 200 = search rules in
-    omega arith
 
 pub returns : goal.returns
 returns c =

@@ -11,20 +11,20 @@ ready_here : (c : After-ready-t) →
     Ready c.args.self c.ready-t.result
 ready_here c = is_ready_as _ _ c.requires c.ready-t.ensures
 
-pub overflow_sub-last : goal.overflow_sub-last
-overflow_sub-last c = omega (arith, ready_here (search))
+pub overflow_sub-bytes : goal.overflow_sub-bytes
+overflow_sub-bytes c = omega (arith, ready_here (search))
 
-pub bounds-bytes-at : goal.bounds-bytes-at
-bounds-bytes-at c = omega (arith, ready_here (search))
+pub bounds-bytes-t : goal.bounds-bytes-t
+bounds-bytes-t c = omega (arith, ready_here (search))
 
-pub bounds-bytes-at-2 : goal.bounds-bytes-at-2
-bounds-bytes-at-2 c = omega (arith, ready_here (search))
+pub bounds-bytes-t-2 : goal.bounds-bytes-t-2
+bounds-bytes-t-2 c = omega (arith, ready_here (search))
 
-pub bounds-bytes-last : goal.bounds-bytes-last
-bounds-bytes-last c = omega (arith, ready_here (search))
+pub bounds-bytes-t-3 : goal.bounds-bytes-t-3
+bounds-bytes-t-3 c = omega (arith, ready_here (search))
 
-pub bounds-bytes-last-2 : goal.bounds-bytes-last-2
-bounds-bytes-last-2 c = omega (arith, ready_here (search))
+pub bounds-bytes-t-4 : goal.bounds-bytes-t-4
+bounds-bytes-t-4 c = omega (arith, ready_here (search))
 
 pub returns : goal.returns
 returns c = finish_is c.args.self c.ready-t.result c.requires c.ready-t.ensures

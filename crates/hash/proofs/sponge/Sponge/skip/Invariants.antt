@@ -1,11 +1,10 @@
--- `hash::sponge::Sponge::skip` meets its contract: after each turn the sponge has advanced by `skipped` bytes.
+-- `hash::sponge::Sponge::skip` meets its contract: with what is left the sponge will have advanced by all n bytes.
 -- Assumes nothing.
-use Prim.Native.Nat.{◌-◌}
-use Rattle.hash.proofs.Steps.{Advancing}
+use Rattle.hash.proofs.Steps.{Skipping}
 use Rattle.hash.proofs.sponge.Sponge.skip.Given as goal
 
-abbrev pub invariant-loop-skipped : goal.invariant-loop-skipped
-invariant-loop-skipped l = Advancing l.initial.s l.n l.skipped l.s
+abbrev pub invariant-loop-left : goal.invariant-loop-left
+invariant-loop-left l = Skipping l.initial.s l.n l.s l.left
 
-abbrev pub decreases-loop-skipped : goal.decreases-loop-skipped
-decreases-loop-skipped l = l.n - l.skipped
+abbrev pub decreases-loop-left : goal.decreases-loop-left
+decreases-loop-left l = l.left

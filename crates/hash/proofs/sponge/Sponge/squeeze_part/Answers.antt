@@ -7,13 +7,8 @@ use lib.ListN.{length}
 use Rattle.hash.proofs.Steps.{part-squeezed}
 use Rattle.hash.proofs.sponge.Sponge.squeeze_part.Goals as goal
 
-pub slice_bounds-copy-end : goal.slice_bounds-copy-end
-slice_bounds-copy-end c =
-    let long : length c.args.self.bytes ≡ 200 = search rules in
-    omega arith
-
 pub returns : goal.returns
 returns c =
     let a = c.args in
     let long : length a.self.bytes ≡ 200 = search rules in
-    part-squeezed a.self (length a.part.now) _ c.requires.0 (omega arith) c.copy.ensures
+    part-squeezed a.self (length a.part.now) _ c.requires.0 (omega arith) c.copy_from_slice.ensures.after

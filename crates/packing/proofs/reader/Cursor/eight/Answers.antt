@@ -7,12 +7,6 @@ use Rattle.keccak.proofs.Parts.{both_parts}
 use Rattle.packing.proofs.Reading.{second_word, eight_in_turn, length_in_turn}
 use Rattle.packing.proofs.reader.Cursor.eight.Goals as goal
 
-pub slice_bounds-four-end-2 : goal.slice_bounds-four-end-2
-slice_bounds-four-end-2 c = simp length-take (omega arith)
-
-pub four-second-requires : goal.four-second-requires
-four-second-requires c = (c.requires.0.first, simp length-take (omega arith))
-
 pub four-requires : goal.four-requires
 four-requires c = (second_word c.requires.0 c.four-second.ensures, simp (length-take, length-drop) (omega arith))
 

@@ -10,8 +10,8 @@ overflow_add-second c =
     let small = second_small a.w a.self.bit c.requires.0 c.requires.1 c.after-second.ensures in
     omega (arith, small.1)
 
-pub overflow_add-past : goal.overflow_add-past
-overflow_add-past c =
+pub overflow_add-second-2 : goal.overflow_add-second-2
+overflow_add-second-2 c =
     let a = c.args in
     let small = second_small a.w a.self.bit c.requires.0 c.requires.1 c.after-second.ensures in
     omega (arith, small.0)
@@ -19,4 +19,5 @@ overflow_add-past c =
 pub returns : goal.returns
 returns c =
     let a = c.args in
-    hold_before a.w a.self.bit a.len c.requires.0 c.requires.1 c.after-second.ensures (omega arith) (omega arith)
+    rw c.saturating_sub.ensures
+    (hold_before a.w a.self.bit a.len c.requires.0 c.requires.1 c.after-second.ensures (omega arith) (omega arith))

@@ -21,7 +21,7 @@ returns c =
     let read : c.low_bits.result ≡ value 8 src / 2 ^ bit_of a.self % 2 ^ a.w =
     c.low_bits.ensures
     ∙ ap (λ (x : ℕ). x / 2 ^ a.self.bit % 2 ^ a.w)
-    (c.low_word.ensures ∙ ap (λ (l : List ℕ). value 8 l % 2 ^ 32) (take_rest a.self.byte src))
+    (c.low_word-word.ensures ∙ ap (λ (l : List ℕ). value 8 l % 2 ^ 32) (take_rest a.self.byte src))
     ∙ field_is 32 a.w a.self.byte a.self.bit src bytes (omega arith)
     in
     ap₂ (λ (x : ℕ) (d : Cursor). record { value = x; next = d }) read c.after.ensures
