@@ -9,6 +9,8 @@ use native.Mathlib.Omega.{arith}
 use borrow.Author.Tests.{le-leb, lt-leb}
 use lib.ListN.{length, take, drop, replicate, length-take, length-drop, length-append}
 use lib.Seq.{drop-nil, length-take-le, take_at, take-take, take-append-le}
+use Rattle.std.specs.Prelude.{Result, Ok, Err}
+use Rattle.std.specs.Result.{IfErr}
 use Rattle.keccak.specs.Lists.{patched}
 use Rattle.lines.specs.Line.{Written}
 use Rattle.records.specs.declared.step.Stepped.{Stepped}
@@ -19,7 +21,7 @@ use Rattle.records.proofs.Stepping.{never_true, step_zeros}
 use Rattle.records.proofs.Windows.{consumed_within}
 use Rattle.records.proofs.Transcripts.{goes_on_less}
 use Rattle.linkcheck.specs.declared.State.{State}
-use Rattle.linkcheck.specs.Turns.{window_of, Places, flushed, has_room, RoomMade, Filled, waits, Ready, Wiped, Answered}
+use Rattle.linkcheck.specs.Turns.{window_of, Places, flushed, has_room, RoomMade, Filled, waits, Ready, Unwritten, Wiped, Answered}
 
 -- What was written stands within the buffer.
 pub written_within : {entry text exit : List ℕ} {at next : ℕ} → Written entry at text next exit → at ≤ length entry → next ≤ length exit
@@ -133,6 +135,15 @@ room_there {s} out within h =
     let fits : s.at + line_room ≤ length out = omega arith in
     record { state_is = rw (le-leb _ _ fits) refl; line_fits = fits }
 
+-- What holds where there is none.
+pub no_room : (s : State) (out : List ℕ) → s.at ≤ length out → length out - s.at < line_room → has_room s out ≡ false
+no_room s out within h = lt-leb _ _ (omega arith)
+
+-- What holds anyhow holds of an error.
+pub of_error : {T E : Type 0} {P : Type 0} (r : Result T E) → P → IfErr r (λ e. P)
+of_error (Ok x) p = tt
+of_error (Err e) p = p
+
 -- Else the output has been written.
 pub room_made : {s r : State} (out : List ℕ) → line_room ≤ length out → length out - s.at < line_room → r ≡ flushed s false
     → RoomMade s out r
@@ -203,6 +214,15 @@ ready_waited {s} {f} {input} {out} {input'} room waiting h =
       };
       at_once = λ e. never_true (sym waiting ∙ e);
     }
+
+-- Where a write failed before the program had to wait.
+pub unwritten_at_once : {s : State} {input out : List ℕ} → has_room s out ≡ false → Unwritten s input out input
+unwritten_at_once none = record { long = refl; at_once = λ e. (none, refl) }
+
+-- And where it had to.
+pub unwritten_waited : {s : State} {input out input' : List ℕ} → waits s input ≡ true → length input' ≡ length input
+    → Unwritten s input out input'
+unwritten_waited waiting same = record { long = same; at_once = λ e. never_true (sym waiting ∙ e) }
 
 -- ---- answering
 

@@ -6,7 +6,7 @@
 
 ghost use Rattle.std.specs.Prelude.{◌≡◌, ◌≤◌, false, length, IfOk, IfErr};
 ghost use Rattle.records.specs.Steps.{line_room};
-ghost use Rattle.linkcheck.specs.Turns.{Places, flushed, waits, RoomMade, Filled, Ready, Wiped, AnswerRoom, Answered};
+ghost use Rattle.linkcheck.specs.Turns.{Places, flushed, has_room, waits, RoomMade, Filled, Ready, Unwritten, Wiped, AnswerRoom, Answered};
 
 use std::io;
 use std::io::{Read, Write};
@@ -82,7 +82,8 @@ fn fill<R: Read>(s: State, reader: &mut R, input: &mut [u8]) -> State
 // Sees to it that the output has room for a line.
 fn make_room<W: Write>(s: State, writer: &mut W, out: &[u8]) -> io::Result<State>
     requires { (s.at ≤ length out.now) × (line_room ≤ length out.now) }
-    ensures { IfOk result (λ r. RoomMade s out.now r) }
+    ensures ok { IfOk result (λ r. RoomMade s out.now r) }
+    ensures err { IfErr result (λ e. has_room s out.now ≡ false) }
 {
     let left = out.len() - s.at;
     if LINE <= left {
@@ -110,7 +111,7 @@ fn ready<R: Read, W: Write>(
 ) -> io::Result<State>
     requires { Places s input.old out.now }
     ensures ok { IfOk result (λ r. Ready s input.old out.now r input.new) }
-    ensures err { IfErr result (λ e. length input.new ≡ length input.old) }
+    ensures err { IfErr result (λ e. Unwritten s input.old out.now input.new) }
 {
     if !waits(s, input) {
         return make_room(s, writer, out);
