@@ -10,7 +10,7 @@ use borrow.Author.Tests.{le-leb, lt-leb}
 use lib.ListN.{length, take, drop, replicate, length-take, length-drop, length-append}
 use lib.Seq.{drop-nil, length-take-le, take_at, take-take, take-append-le}
 use Rattle.std.specs.Prelude.{Result, Ok, Err}
-use Rattle.std.specs.Result.{IfErr}
+use Rattle.std.specs.Result.{IfErr, IfOk}
 use Rattle.keccak.specs.Lists.{patched}
 use Rattle.lines.specs.Line.{Written}
 use Rattle.records.specs.declared.step.Stepped.{Stepped}
@@ -139,6 +139,19 @@ room_there {s} out within h =
 pub no_room : (s : State) (out : List ℕ) → s.at ≤ length out → length out - s.at < line_room → has_room s out ≡ false
 no_room s out within h = lt-leb _ _ (omega arith)
 
+-- The run goes on where the output was written, and as it did where nothing was.
+pub goes_on : {E : Type 0} (r : Result State E) (s : State) (out : List ℕ) → has_room s out ≡ false → IfOk r (λ t. t ≡ flushed s false)
+    → IfOk r (λ t. t.ended ≡ cond (has_room s out) s.ended false)
+unfolding flushed
+goes_on (Ok t) s out none e = rw (none, e) refl
+goes_on (Err x) s out none e = e
+
+pub goes_on_as_it_did : (s : State) (out : List ℕ) → s.at ≤ length out → line_room ≤ length out - s.at
+    → s.ended ≡ cond (has_room s out) s.ended false
+goes_on_as_it_did s out within h =
+    let fits : s.at + line_room ≤ length out = omega arith in
+    rw (le-leb _ _ fits) refl
+
 -- What holds anyhow holds of an error.
 pub of_error : {T E : Type 0} {P : Type 0} (r : Result T E) → P → IfErr r (λ e. P)
 of_error (Ok x) p = tt
@@ -183,6 +196,25 @@ pub ready_there : {s r : State} {input out : List ℕ} → Places s input out �
     → Ready s input out r input
 ready_there {s} {r} {input} p made not = ready_at_once p made not (shown_at_once s.more (shows_record (window_of s input)) not)
 
+-- More was read, whether the output was written before or not.
+flushed_filled : {s f : State} {input input' : List ℕ} (failed : Bool) → Filled s input f input'
+    → Filled (flushed s failed) input (flushed f failed) input'
+unfolding flushed
+flushed_filled {s} {f} {input} {input'} failed h =
+    let same : window_of (flushed f failed) input' ≡ window_of f input' = same_window f (flushed f failed) input' refl refl in
+    let as_was : window_of (flushed s failed) input ≡ window_of s input = same_window s (flushed s failed) input refl refl in
+    record {
+      from_is = h.from_is;
+      in_input = h.in_input;
+      long = h.long;
+      front = ap (take (s.to - s.from)) same ∙ (h.front ∙ sym as_was);
+      more_is = h.more_is ∙ ap shows_record (sym same);
+      done_is = h.done_is;
+      at_is = refl;
+      ended_is = refl;
+      unread = rw as_was h.unread;
+    }
+
 -- The output was written, and more was read.
 pub ready_waited : {s f : State} {input out input' : List ℕ} → line_room ≤ length out → waits s input ≡ true
     → Filled s input f input'
@@ -191,7 +223,6 @@ unfolding flushed
 ready_waited {s} {f} {input} {out} {input'} room waiting h =
     let r : State = record { from = f.from; to = f.to; more = f.more; done = f.done; at = 0; ended = false } in
     let same : window_of r input' ≡ window_of f input' = same_window f r input' refl refl in
-    let as_was : window_of (flushed s false) input ≡ window_of s input = same_window s (flushed s false) input refl refl in
     record {
       window = record {
         in_order = omega (arith, h.from_is);
@@ -201,28 +232,34 @@ ready_waited {s} {f} {input} {out} {input'} room waiting h =
         shown = λ e. ap shows_record same ∙ (sym h.more_is ∙ e);
       };
       line_fits = room;
-      waited = λ e. record {
-        from_is = h.from_is;
-        in_input = h.in_input;
-        long = h.long;
-        front = ap (take (s.to - s.from)) same ∙ (h.front ∙ sym as_was);
-        more_is = h.more_is ∙ ap shows_record (sym same);
-        done_is = h.done_is;
-        at_is = refl;
-        ended_is = refl;
-        unread = rw as_was h.unread;
-      };
+      waited = λ e. flushed_filled false h;
       at_once = λ e. never_true (sym waiting ∙ e);
     }
 
+-- Whether the run goes on: not where it had to wait, for then the output was written.
+pub goes_on_at_once : {E : Type 0} (r : Result State E) (s : State) (input out : List ℕ) → waits s input ≡ false
+    → IfOk r (λ t. t.ended ≡ cond (has_room s out) s.ended false)
+    → IfOk r (λ t. t.ended ≡ cond (waits s input) false (cond (has_room s out) s.ended false))
+goes_on_at_once (Ok t) s input out none e = rw none e
+goes_on_at_once (Err x) s input out none e = e
+
+pub goes_on_waited : (s : State) (input : List ℕ) (b : Bool) → waits s input ≡ true → false ≡ cond (waits s input) false b
+goes_on_waited s input b waiting = rw waiting refl
+
 -- Where a write failed before the program had to wait.
-pub unwritten_at_once : {s : State} {input out : List ℕ} → has_room s out ≡ false → Unwritten s input out input
-unwritten_at_once none = record { long = refl; at_once = λ e. (none, refl) }
+pub unwritten_at_once : {s : State} {input out : List ℕ} → waits s input ≡ false → has_room s out ≡ false
+    → Unwritten s input out input
+unwritten_at_once idle none = record { long = refl; waited = λ e. never_true (sym e ∙ idle); at_once = λ e. (none, refl) }
 
 -- And where it had to.
-pub unwritten_waited : {s : State} {input out input' : List ℕ} → waits s input ≡ true → length input' ≡ length input
+pub unwritten_waited : {s f : State} {input out input' : List ℕ} → waits s input ≡ true → Filled s input f input'
     → Unwritten s input out input'
-unwritten_waited waiting same = record { long = same; at_once = λ e. never_true (sym waiting ∙ e) }
+unwritten_waited {f = f} waiting h =
+    record {
+      long = h.long;
+      waited = λ e. (flushed f true, flushed_filled true h);
+      at_once = λ e. never_true (sym waiting ∙ e);
+    }
 
 -- ---- answering
 

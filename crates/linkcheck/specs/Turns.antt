@@ -64,10 +64,11 @@ pub record Ready (s : State) (input out : List ℕ) (r : State) (input' : List �
   pub waited : waits s input ≡ true → Filled (flushed s r.ended) input r input'
   pub at_once : waits s input ≡ false → RoomMade s out r × (input' ≡ input)
 
--- What is left where a write failed: the input's buffer is as long as it was, and where the program did not have to wait there was
--- no room for a line and nothing was read.
+-- What is left where a write failed: the input's buffer is as long as it was. Where the program had to wait, more was read all the
+-- same, behind what was left; else there was no room for a line, and nothing was read.
 pub record Unwritten (s : State) (input out input' : List ℕ) : Type 0 where
   pub long : length input' ≡ length input
+  pub waited : waits s input ≡ true → (r : State) × Filled (flushed s true) input r input'
   pub at_once : waits s input ≡ false → (has_room s out ≡ false) × (input' ≡ input)
 
 -- A work area after any number of steps: zeros at its front, and behind them what it was.

@@ -4,7 +4,7 @@
 // run.
 #![tactic(auto)]
 
-ghost use Rattle.std.specs.Prelude.{◌≡◌, ◌≤◌, false, length, IfOk, IfErr};
+ghost use Rattle.std.specs.Prelude.{◌≡◌, ◌≤◌, cond, false, length, IfOk, IfErr};
 ghost use Rattle.records.specs.Steps.{line_room};
 ghost use Rattle.linkcheck.specs.Turns.{Places, flushed, has_room, waits, RoomMade, Filled, Ready, Unwritten, Wiped, AnswerRoom, Answered};
 
@@ -83,6 +83,7 @@ fn fill<R: Read>(s: State, reader: &mut R, input: &mut [u8]) -> State
 fn make_room<W: Write>(s: State, writer: &mut W, out: &[u8]) -> io::Result<State>
     requires { (s.at ≤ length out.now) × (line_room ≤ length out.now) }
     ensures ok { IfOk result (λ r. RoomMade s out.now r) }
+    ensures ended { IfOk result (λ r. r.ended ≡ cond (has_room s out.now) s.ended false) }
     ensures err { IfErr result (λ e. has_room s out.now ≡ false) }
 {
     let left = out.len() - s.at;
@@ -111,6 +112,7 @@ fn ready<R: Read, W: Write>(
 ) -> io::Result<State>
     requires { Places s input.old out.now }
     ensures ok { IfOk result (λ r. Ready s input.old out.now r input.new) }
+    ensures ended { IfOk result (λ r. r.ended ≡ cond (waits s input.old) false (cond (has_room s out.now) s.ended false)) }
     ensures err { IfErr result (λ e. Unwritten s input.old out.now input.new) }
 {
     if !waits(s, input) {

@@ -22,14 +22,13 @@ pub fn unpack(w: u32, src: &[u8], dst: &mut [u16])
 fn put(dst: &mut [u8], v: u32)
     ensures { take 4 dst.new ≡ digits 8 (min 4 (length dst.old)) v }
 {
-    let bytes = v.to_le_bytes();
     if 4 <= dst.len() {
-        dst[..4].copy_from_slice(&bytes);
+        dst[..4].copy_from_slice(&v.to_le_bytes());
         return;
     }
-    // No `copy_from_slice`: at a length that varies it is a call, which takes longer than so few bytes.
+    // By shifts: a loop that reads the bytes of v becomes a copy at a length that varies, a call, which takes longer than so few.
     for (i, byte) in dst.iter_mut().enumerate() {
-        *byte = bytes[i];
+        *byte = ((v >> (8 * i)) % 256) as u8;
     }
 }
 

@@ -53,7 +53,7 @@ pub fn body_length(rest: &[u8]) -> u16
     requires { 6 ≤ length rest.now }
     ensures { result ≡ body_length rest.now }
 {
-    u16::from_le_bytes([rest[4], rest[5]])
+    hex_digits::pair(rest[4], rest[5])
 }
 
 // Whether a body is over the longest, or cut short by what is left.

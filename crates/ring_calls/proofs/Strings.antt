@@ -1,10 +1,10 @@
 -- Centred values of ten bits are so small that their products fit. Assumes nothing.
-use mathlib.Core.Path.{◌≡◌, sym, ◌∙◌}
+use mathlib.Core.Path.{◌≡◌, sym, ap, ◌∙◌}
 use mathlib.Core.List.{List}
 use Prim.Native.Nat.{ℕ, ◌*◌, ◌^◌, ◌≤◌}
 use native.Mathlib.Nat.{mul-le-mul}
 use native.Mathlib.Omega.{arith}
-use lib.IntN.{pos}
+use lib.IntN.{ℤ, pos}
 use lib.ListN.{length, replicate, length-replicate}
 use lib.Pow.{pow_mono}
 use Rattle.bits.proofs.Digits.{unpack_below, length-unpack}
@@ -22,6 +22,11 @@ string_size w p n bytes narrow near =
 
 string_long : (w p n : ℕ) (bytes : List ℕ) → length (centred_string w p n bytes) ≡ n
 string_long w p n bytes = length-tabulate (length (unpack w n bytes)) _ ∙ length-unpack w n bytes
+
+-- A string of so many values, where they are counted another way.
+pub centred_at : (w p n : ℕ) (bytes : List ℕ) {m : ℕ} {xs : List ℤ} → xs ≡ centred_string w p m bytes → m ≡ n
+    → xs ≡ centred_string w p n bytes
+centred_at w p n bytes e h = e ∙ ap (λ (k : ℕ). centred_string w p k bytes) h
 
 -- The product of two strings may be added to nothing.
 pub summable : (w p n : ℕ) (a b : List ℕ) → Small w p n a b

@@ -88,16 +88,13 @@ pub extern "C" fn ring_unpack_from(
     0
 }
 
-// The first n values of a string, each less p, at the front of an array.
-fn centre(w: u32, p: u16, n: usize, bytes: &[u8]) -> [i16; 512]
-    requires { (n ≤ 512) × (w ≤ 10) × (p ≤ 1024) × (bytes_for (w * n) ≤ length bytes.now) }
-    ensures { take n result ≡ centred_string w p n bytes.now }
+// The values of a string, each less p; values has room for them.
+fn centre(w: u32, p: u16, bytes: &[u8], values: &mut [u16], xs: &mut [i16])
+    requires { (w ≤ 10) × (p ≤ 1024) × (length values.old ≡ length xs.old) × (bytes_for (w * length xs.old) ≤ length bytes.now) }
+    ensures { xs.new ≡ centred_string w p (length xs.old) bytes.now }
 {
-    let mut values = [0; 512];
-    let mut centred = [0; 512];
-    packing::unpack(w, bytes, &mut values[..n]);
-    signed::centre(&values[..n], p, &mut centred[..n]);
-    centred
+    packing::unpack(w, bytes, values);
+    signed::centre(values, p, xs);
 }
 
 // The product of two strings of values of w bits, each less p, over the integers modulo X^n + 1.
@@ -121,10 +118,14 @@ pub extern "C" fn ring_signed_product(
     if a.len() < bytes || b.len() < bytes {
         return 1;
     }
-    let xs = centre(w, p, n, a);
-    let ys = centre(w, p, n, b);
+    let mut values = [0; 512];
+    let mut xs = [0; 512];
+    let mut ys = [0; 512];
+    let (values, xs, ys) = (&mut values[..n], &mut xs[..n], &mut ys[..n]);
+    centre(w, p, a, values, xs);
+    centre(w, p, b, values, ys);
     product.fill(0);
-    signed::multiply_add(product, &xs[..n], &ys[..n]);
+    signed::multiply_add(product, xs, ys);
     0
 }
 

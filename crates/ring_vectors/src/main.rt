@@ -64,9 +64,9 @@ fn read_head<R: Read>(reader: &mut R) -> Result<Head, Stop> {
     reader.read_exact(&mut bytes)?;
     let kind = Kind::try_from(bytes[0])?;
     let w = u32::from(bytes[1]);
-    let n = usize::from(u16::from_le_bytes([bytes[2], bytes[3]]));
-    let p = u16::from_le_bytes([bytes[4], bytes[5]]);
-    let bound = u16::from_le_bytes([bytes[6], bytes[7]]);
+    let n = usize::from(hex_digits::pair(bytes[2], bytes[3]));
+    let p = hex_digits::pair(bytes[4], bytes[5]);
+    let bound = hex_digits::pair(bytes[6], bytes[7]);
     if 16 < w || 512 < n {
         return Err(Stop);
     }

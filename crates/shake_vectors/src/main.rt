@@ -63,9 +63,10 @@ fn one_case<R: Read, W: Write>(
     let mut head = [0; 9];
     reader.read_exact(&mut head)?;
     let [kind, n0, n1, m0, m1, p0, p1, p2, p3] = head;
-    let n = usize::from(u16::from_le_bytes([n0, n1]));
-    let m = usize::from(u16::from_le_bytes([m0, m1]));
-    let place = u32::from_le_bytes([p0, p1, p2, p3]) as usize;
+    let n = usize::from(hex_digits::pair(n0, n1));
+    let m = usize::from(hex_digits::pair(m0, m1));
+    let place = usize::from(hex_digits::pair(p0, p1))
+        + 65536 * usize::from(hex_digits::pair(p2, p3));
     if input.len() < n || output.len() < m || line.len() < 2 * m + 1 {
         return Err(Stop::TooLong);
     }

@@ -5,11 +5,11 @@ use mathlib.Core.Path.{◌≡◌, refl, sym, ap, ◌∙◌}
 use Prim.Native.Nat.{ℕ, min}
 use native.Mathlib.Nat.{min-eq_left, min-eq_right}
 use native.Mathlib.Omega.{arith}
-use lib.ListN.{length, get_or, take, drop}
+use lib.ListN.{length, take, drop}
 use lib.Seq.{take_at, take_all}
 use Rattle.keccak.specs.Lists.{digits}
 use Rattle.keccak.proofs.Parts.{length_digits}
-use Rattle.bits.proofs.Digits.{digits-tabulate, digits_at}
+use Rattle.bits.proofs.Digits.{digits-tabulate}
 use Rattle.bits.proofs.Filling.{filling_more, filling_all}
 use Rattle.packing.proofs.Bytes.{four_digits}
 use Rattle.packing.proofs.put.Goals as goal
@@ -19,15 +19,11 @@ returns-then-dst-ge4 c =
     let v = c.args.v in
     let rest = drop 4 c.args.dst.now in
     let four : min 4 (length c.args.dst.now) ≡ 4 = min-eq_left c.if-dst-ge4.true in
-    ap (λ (l : List ℕ). take 4 (l ++ rest)) (c.copy_from_slice.ensures.after ∙ c.to_le_bytes-bytes.ensures ∙ four_digits v)
+    ap (λ (l : List ℕ). take 4 (l ++ rest)) (c.copy_from_slice.ensures.after ∙ c.to_le_bytes.ensures ∙ four_digits v)
     ∙ take_at (digits 8 4 v) rest 4 (length_digits 8 4 v) ∙ ap (λ (n : ℕ). digits 8 n v) (sym four)
 
 pub loop-i-preserved : goal.loop-i-preserved
-loop-i-preserved c =
-    let v = c.args.v in
-    let i = c.loop-i.i in
-    filling_more 0 c.loop-i.invariant (omega arith)
-    (ap (λ (l : List ℕ). get_or l i 0) (c.to_le_bytes-bytes.ensures ∙ four_digits v) ∙ digits_at 8 4 v i (omega arith))
+loop-i-preserved c = filling_more 0 c.loop-i.invariant (omega arith) refl
 
 pub returns : goal.returns
 returns c =
