@@ -2,7 +2,7 @@
 -- Assumes nothing.
 use mathlib.Core.Path.{◌≡◌, refl, sym, ap, ap₂, ◌∙◌, subst}
 use mathlib.Core.Bool.{Bool, cond}
-use mathlib.Core.List.{List, [], ◌∷◌, ◌++◌}
+use mathlib.Core.List.{List, [], ◌∷◌, ◌++◌, append_assoc}
 use mathlib.Core.Logic.{⊎_elim}
 use Prim.Native.Nat.{ℕ, zero, suc, ◌+◌, ◌-◌, ◌%◌, ◌≤◌, ◌<◌}
 use native.Mathlib.Nat.{add-zero, zero-add, add-mod_right, mod-add-mod, eq-or-lt_of_le, not-suc-le-zero}
@@ -265,10 +265,16 @@ part-squeezed s n ys h l is =
 
 -- ---- what the loops carry
 
--- `absorb`: with what is left of the input the sponge will have absorbed all of it.
+-- `absorb`: the sponge has absorbed what was taken of the input, and the rest is left.
 pub record Absorbing (s₀ : Sponge) (input : List ℕ) (s : Sponge) (rest : List ℕ) : Type 0 where
-  pub sound : Sound s
-  pub is : absorbed s rest ≡ absorbed s₀ input
+  pub begun : Sound s₀
+  pub taken : List ℕ
+  pub split : input ≡ taken ++ rest
+  pub is : s ≡ absorbed s₀ taken
+
+pub absorbing_begun : (s : Sponge) (input : List ℕ) → Sound s → Absorbing s input s input
+unfolding absorbed
+absorbing_begun s input h = record { begun = h; taken = []; split = refl; is = refl }
 
 absorbed_nothing : (s : Sponge) (rest : List ℕ) → length rest ≡ 0 → absorbed s rest ≡ s
 unfolding absorbed
@@ -276,22 +282,27 @@ absorbed_nothing s [] none = refl
 absorbed_nothing s (b ∷ bs) none = cc
 
 module _ {s₀ : Sponge} {input : List ℕ} {s : Sponge} {rest : List ℕ} (h : Absorbing s₀ input s rest) where
+  pub absorbing_sound : Sound s
+  absorbing_sound = subst Sound (sym h.is) (sound_absorbed s₀ h.taken h.begun)
+
   -- The next bytes of the rest.
   pub absorbing_more : {t u : Sponge} (part later : List ℕ) → t ≡ ready s → 0 < length part → rest ≡ part ++ later → u ≡ absorbed t part
       → Absorbing s₀ input u later
   absorbing_more {u = u} part later is-t some parts is-u =
-      let took : u ≡ absorbed s part =
-      is-u ∙ ap (λ (v : Sponge). absorbed v part) is-t ∙ sym (absorbed-ready s part h.sound some)
-      in
       record {
-        sound = subst Sound (sym took) (sound_absorbed s part h.sound);
+        begun = h.begun;
+        taken = h.taken ++ part;
+        split = h.split ∙ ap (λ (l : List ℕ). h.taken ++ l) parts ∙ sym (append_assoc h.taken part later);
         is =
-            ap (λ (v : Sponge). absorbed v later) took ∙ absorbed-append s part later ∙ ap (absorbed s) (sym parts) ∙ h.is;
+            is-u ∙ ap (λ (v : Sponge). absorbed v part) is-t ∙ sym (absorbed-ready s part absorbing_sound some)
+            ∙ ap (λ (v : Sponge). absorbed v part) h.is ∙ absorbed-append s₀ h.taken part;
       }
 
   -- After the last turn.
   pub absorbing_all : length rest ≡ 0 → s ≡ absorbed s₀ input
-  absorbing_all none = sym (absorbed_nothing s rest none) ∙ h.is
+  absorbing_all none =
+      sym (absorbed_nothing s rest none) ∙ ap (λ (v : Sponge). absorbed v rest) h.is ∙ absorbed-append s₀ h.taken rest
+      ∙ ap (absorbed s₀) (sym h.split)
 
 -- `skip`: with what is left the sponge will have advanced by all n bytes.
 pub record Skipping (s₀ : Sponge) (n : ℕ) (s : Sponge) (left : ℕ) : Type 0 where

@@ -26,7 +26,7 @@ fn put(dst: &mut [u8], v: u32)
         dst[..4].copy_from_slice(&v.to_le_bytes());
         return;
     }
-    // By shifts: a loop that reads the bytes of v becomes a copy at a length that varies, a call, which takes longer than so few.
+    // By shifts: a loop that reads the bytes of v becomes a copy at a length that varies, a call that takes longer than they do.
     for (i, byte) in dst.iter_mut().enumerate() {
         *byte = ((v >> (8 * i)) % 256) as u8;
     }
